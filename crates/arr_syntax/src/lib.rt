@@ -1,0 +1,10 @@
+//! The script language: its tree, its places and refusals.
+#![tactic(auto)]
+
+mod lists;
+mod refusal;
+mod tree;
+
+pub use lists::{Name, Slices};
+pub use refusal::{Kind, ParseFault, Place, Refusal};
+pub use tree::{Code16, Cut, Expr, ExprForm, Form, Lengths, Script, Statement, Steps, Type4, Word};
