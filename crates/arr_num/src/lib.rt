@@ -1,0 +1,18 @@
+//! Element types, opcodes and their values.
+//!
+//! This is the ground that every other crate stands on: the four types of array elements, the
+//! thirty-one opcodes, and what each opcode makes of its inputs, on whole numbers.
+//!
+//! The promise: `width`, `least`, `greatest`, `holds` and `wrap` of `Elem` are the table of types, and
+//! each answer is exact for every `i128`. No call takes memory and none can fail.
+//!
+//! The definitions: `specs/Numbers.antt` has the types, the table of values (`whole`), what wrapping
+//! means (`wrap`), the value of an opcode (`value`) and the starts of folds (`fold_start`);
+//! `specs/Kinds.antt` sorts the opcodes. `docs/LANGUAGE.md` states the same rules in words.
+#![tactic(auto)]
+
+mod code;
+mod elem;
+
+pub use code::Code;
+pub use elem::Elem;
