@@ -24,7 +24,7 @@ mod writing;
 
 pub use memory_sink::MemorySink;
 pub use memory_source::MemorySource;
-pub use reading::{ReadFailure, read_all};
+pub use reading::{ReadFailure, read_all, read_up_to};
 pub use sink::{Sink, WriteFault};
 pub use source::{Failed, Source};
 pub use std_sink::StdSink;

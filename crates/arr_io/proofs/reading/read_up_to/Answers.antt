@@ -1,7 +1,7 @@
 use Rattle.std.proofs.Common.{arith, ℕ}
 use Rattle.std.proofs.lemmas.List.{length-take}
 use Rattle.arr_io.proofs.Pieces.{both_taken}
-use Rattle.arr_io.proofs.reading.read_all.Goals as goal
+use Rattle.arr_io.proofs.reading.read_up_to.Goals as goal
 
 pub returns-then-is_err-clause-taken : goal.returns-then-is_err-clause-taken
 returns-then-is_err-clause-taken g c =

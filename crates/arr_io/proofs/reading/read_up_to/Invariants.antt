@@ -1,13 +1,13 @@
-use Rattle.std.proofs.Common.{◌+◌, ◌-◌, ◌≤◌, vec_len}
+use Rattle.std.proofs.Common.{◌-◌, ◌≤◌, vec_len}
 use Rattle.std.specs.Io.KnownBytes.{Consumes}
-use Rattle.arr_io.proofs.reading.read_all.Given as goal
+use Rattle.arr_io.proofs.reading.read_up_to.Given as goal
 
 abbrev pub invariant-loop-buffer : goal.invariant-loop-buffer
 invariant-loop-buffer g l = record {
-  within : vec_len l.bytes ≤ l.limit + 1;
+  within : vec_len l.bytes ≤ l.most;
   taken : Consumes (g.S.Source.left l.fn.source) (g.S.Source.left l.source) l.bytes.items;
   later : g.S.Source.faults l.fn.source ≤ g.S.Source.faults l.source;
 }
 
 abbrev pub decreases-loop-buffer : goal.decreases-loop-buffer
-decreases-loop-buffer g l = (l.limit + 1) - vec_len l.bytes
+decreases-loop-buffer g l = l.most - vec_len l.bytes
