@@ -20,7 +20,7 @@ unfolding value
 answer code known t x y r z is fits e same = read r fits ∙ e ∙ same ∙ sym (ap (λ c. value c t x y) is)
 
 -- two tests that pass together are one
-same_tests : (a b : Bool) → (a ≡ true → b ≡ true) → (b ≡ true → a ≡ true) → a ≡ b
+pub same_tests : (a b : Bool) → (a ≡ true → b ≡ true) → (b ≡ true → a ≡ true) → a ≡ b
 same_tests true b f g = sym (f refl)
 same_tests false true f g = g refl
 same_tests false false f g = refl

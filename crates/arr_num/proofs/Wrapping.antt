@@ -32,7 +32,7 @@ pub digits_below : (t : Elem) (z : ℤ) → digits t z < size t
 digits_below t (pos n) = mod-lt n (size_more t)
 digits_below t (negsuc n) = let a : n % size t < size t = mod-lt n (size_more t) in omega arith
 
-in_from : (t : Elem) (n : ℕ) → n < size t → in_type t (from_digits t n) ≡ true
+pub in_from : (t : Elem) (n : ℕ) → n < size t → in_type t (from_digits t n) ≡ true
 in_from t n l =
     elim (nat_lt n (upper t)) as (λ b. nat_lt n (upper t) ≡ b → in_type t (cond b (pos n) (negsuc (size t - suc n))) ≡ true) [
       | true ↦ λ e. e
