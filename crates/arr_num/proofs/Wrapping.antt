@@ -7,7 +7,7 @@ use Rattle.std.proofs.Math.Nat.{mod-eq_of_lt, mod-lt}
 use Rattle.std.proofs.lemmas.Bool.{eqb-true}
 use Rattle.std.specs.Int.{int_rem_euclid, w128}
 use Rattle.std.proofs.Common.{FitsSigned}
-use Rattle.arr_num.specs.Numbers.{size, upper, greatest, digits, from_digits, in_type, same, wrap}
+use Rattle.arr_num.specs.Numbers.{bits, shift, size, upper, greatest, digits, from_digits, in_type, same, wrap}
 use Rattle.arr_num.specs.declared.elem.Elem.{Elem}
 use Rattle.arr_num.specs.declared.elem.Elem.TheVariants.{U8, I32, I64, U64}
 
@@ -32,7 +32,7 @@ pub digits_below : (t : Elem) (z : ℤ) → digits t z < size t
 digits_below t (pos n) = mod-lt n (size_more t)
 digits_below t (negsuc n) = let a : n % size t < size t = mod-lt n (size_more t) in omega arith
 
-in_from : (t : Elem) (n : ℕ) → n < size t → in_type t (from_digits t n) ≡ true
+pub in_from : (t : Elem) (n : ℕ) → n < size t → in_type t (from_digits t n) ≡ true
 in_from t n l =
     elim (nat_lt n (upper t)) as (λ b. nat_lt n (upper t) ≡ b → in_type t (cond b (pos n) (negsuc (size t - suc n))) ≡ true) [
       | true ↦ λ e. e
@@ -88,25 +88,23 @@ same_is (negsuc m) (pos n) h = absurd (false≢true h)
 nat_lt-false : (x y : ℕ) → y ≤ x → nat_lt x y ≡ false
 nat_lt-false x y l = elim (nat_lt x y) as (λ b. nat_lt x y ≡ b → b ≡ false) [ true ↦ λ e. let k : x < y = ltb-true x y e in absurd (omega arith) | false ↦ λ e. refl ] refl
 
--- a remainder in the type is the wrapped number
-pub wrap_low : (t : Elem) (z r : ℤ) → r ≡ int_rem_euclid z (pos (size t)) → pos 0 ≤ℤ r → r ≤ℤ greatest t → r ≡ wrap t z
+-- digits of a number from 0 up are the wrapped number
+pub wrap_low : (t : Elem) (z : ℤ) → pos (digits t z) ≤ℤ greatest t → pos (digits t z) ≡ wrap t z
 unfolding wrap
-wrap_low t z (pos n) e low high =
+wrap_low t z high =
     let u : 0 < upper t = upper_more t in
-    let l : n < upper t = omega (arith, ints) in
-    ap (λ b. cond b (pos n) (negsuc (size t - suc n))) (sym (lt-ltb n (upper t) l)) ∙ ap (λ r. from_digits t (unsigned_abs r)) e
-wrap_low t z (negsuc n) e low high = absurd (omega (arith, ints))
+    let l : digits t z < upper t = omega (arith, ints) in
+    ap (λ b. cond b (pos (digits t z)) (negsuc (size t - suc (digits t z)))) (sym (lt-ltb (digits t z) (upper t) l))
 
--- a remainder above the type is the wrapped number and the size
-pub wrap_high : (t : Elem) (z r : ℤ) → r ≡ int_rem_euclid z (pos (size t)) → greatest t <ℤ r → r <ℤ pos (size t) → r -ℤ pos (size t) ≡ wrap t z
+-- digits of a number below 0 are the wrapped number and the size
+pub wrap_high : (t : Elem) (z : ℤ) → greatest t <ℤ pos (digits t z) → pos (digits t z) -ℤ pos (size t) ≡ wrap t z
 unfolding wrap
-wrap_high t z (pos n) e low high =
+wrap_high t z low =
     let u : 0 < upper t = upper_more t in
-    let l : upper t ≤ n = omega (arith, ints) in
-    let m : n < size t = omega (arith, ints) in
-    let below : pos n -ℤ pos (size t) ≡ negsuc (size t - suc n) = omega (arith, ints) in
-    below ∙ ap (λ b. cond b (pos n) (negsuc (size t - suc n))) (sym (nat_lt-false n (upper t) l)) ∙ ap (λ r. from_digits t (unsigned_abs r)) e
-wrap_high t z (negsuc n) e low high = absurd (omega (arith, ints))
+    let l : upper t ≤ digits t z = omega (arith, ints) in
+    let m : digits t z < size t = digits_below t z in
+    let below : pos (digits t z) -ℤ pos (size t) ≡ negsuc (size t - suc (digits t z)) = omega (arith, ints) in
+    below ∙ ap (λ b. cond b (pos (digits t z)) (negsuc (size t - suc (digits t z)))) (sym (nat_lt-false (digits t z) (upper t) l))
 
 pub fits_of_type : (t : Elem) (z : ℤ) → in_type t z ≡ true → FitsSigned w128 z
 fits_of_type U8 (pos n) h = let a : n < 2 ^ 8 = ltb-true _ _ h in omega arith
@@ -117,3 +115,38 @@ fits_of_type U8 (negsuc n) h = let a : n < 0 = ltb-true _ _ h in absurd (omega a
 fits_of_type I32 (negsuc n) h = let a : n < 2 ^ 31 = ltb-true _ _ h in omega arith
 fits_of_type I64 (negsuc n) h = let a : n < 2 ^ 63 = ltb-true _ _ h in omega arith
 fits_of_type U64 (negsuc n) h = let a : n < 0 = ltb-true _ _ h in absurd (omega arith)
+
+-- every type's numbers lie between the least of the 64 bits with a sign and the greatest without one
+pub low_of_type : (t : Elem) (z : ℤ) → in_type t z ≡ true → negsuc (2 ^ 63 - 1) ≤ℤ z
+low_of_type t (pos n) h = omega (arith, ints)
+low_of_type U8 (negsuc n) h = let a : n < 0 = ltb-true _ _ h in absurd (omega arith)
+low_of_type I32 (negsuc n) h = let a : n < 2 ^ 31 = ltb-true _ _ h in omega (arith, ints)
+low_of_type I64 (negsuc n) h = let a : n < 2 ^ 63 = ltb-true _ _ h in omega (arith, ints)
+low_of_type U64 (negsuc n) h = let a : n < 0 = ltb-true _ _ h in absurd (omega arith)
+
+pub high_of_type : (t : Elem) (z : ℤ) → in_type t z ≡ true → z ≤ℤ pos (2 ^ 64 - 1)
+high_of_type t (negsuc n) h = omega (arith, ints)
+high_of_type U8 (pos n) h = let a : n < 2 ^ 8 = ltb-true _ _ h in omega (arith, ints)
+high_of_type I32 (pos n) h = let a : n < 2 ^ 31 = ltb-true _ _ h in omega (arith, ints)
+high_of_type I64 (pos n) h = let a : n < 2 ^ 63 = ltb-true _ _ h in omega (arith, ints)
+high_of_type U64 (pos n) h = let a : n < 2 ^ 64 = ltb-true _ _ h in omega (arith, ints)
+
+-- a shift is by less than the bits
+pub shift_below : (t : Elem) (y : ℤ) → shift t y < 64
+shift_below t y = let a : shift t y < bits t = below (bits t) y (some_bits t) in let b : bits t ≤ 64 = most_bits t in omega arith
+  where
+    some_bits : (t : Elem) → 0 < bits t
+    some_bits U8 = ltb-true _ _ refl
+    some_bits I32 = ltb-true _ _ refl
+    some_bits I64 = ltb-true _ _ refl
+    some_bits U64 = ltb-true _ _ refl
+
+    most_bits : (t : Elem) → bits t ≤ 64
+    most_bits U8 = leb-true _ _ refl
+    most_bits I32 = leb-true _ _ refl
+    most_bits I64 = leb-true _ _ refl
+    most_bits U64 = leb-true _ _ refl
+
+    below : (m : ℕ) (y : ℤ) → 0 < m → unsigned_abs (int_rem_euclid y (pos m)) < m
+    below m (pos n) h = mod-lt n h
+    below m (negsuc n) h = let a : n % m < m = mod-lt n h in omega arith

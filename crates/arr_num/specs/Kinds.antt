@@ -36,6 +36,10 @@ abbrev pub binds_one : Kind → Bool
 binds_one Unary = true
 binds_one _ = false
 
+abbrev pub counts : Kind → Bool
+counts Counting = true
+counts _ = false
+
 -- a reduction
 abbrev pub folds : Kind → Bool
 folds Reduction = true
@@ -57,6 +61,10 @@ is_binary code = binds_two (kind code)
 
 abbrev pub is_unary : Code → Bool
 is_unary code = binds_one (kind code)
+
+-- it works at each position on the numbers that stand there
+abbrev pub is_element_wise : Code → Bool
+is_element_wise code = is_binary code || (is_unary code || counts (kind code))
 
 abbrev pub is_reduction : Code → Bool
 is_reduction code = folds (kind code)

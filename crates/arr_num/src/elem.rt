@@ -1,5 +1,5 @@
-ghost use Rattle.std.specs.Prelude.{◌≡◌, pos};
-ghost use Rattle.arr_num.specs.Numbers.{greatest, in_type, least, size, width, wrap};
+ghost use Rattle.std.specs.Prelude.{◌≡◌, pos, ◌*ℤ◌};
+ghost use Rattle.arr_num.specs.Numbers.{digits, greatest, in_type, least, shift, size, width, wrap};
 
 /// The type of an array's elements (docs/LANGUAGE.md, "Types").
 #[derive(Clone, Copy, Debug, PartialEq, Eq)]
@@ -61,7 +61,7 @@ impl Elem {
     pub fn wrap(self, value: i128) -> i128
         ensures { result ≡ wrap self value }
     {
-        let digits = value.rem_euclid(self.size());
+        let digits = self.digits(value) as i128;
         if digits <= self.greatest() {
             digits
         } else {
@@ -69,8 +69,29 @@ impl Elem {
         }
     }
 
+    /// The two's complement digits of `value`, as a number from 0 up to the type's size.
+    pub(crate) fn digits(self, value: i128) -> u64
+        ensures { result ≡ digits self value }
+    {
+        value.rem_euclid(self.size()) as u64
+    }
+
+    /// The count of a shift, modulo the type's bits.
+    pub(crate) fn shift(self, count: i128) -> u32
+        ensures { result ≡ shift self count }
+    {
+        count.rem_euclid(8 * self.width() as i128) as u32
+    }
+
+    /// The product, wrapped into the type. An `i128` wraps by a multiple of each type's size.
+    pub(crate) fn product(self, left: i128, right: i128) -> i128
+        ensures { result ≡ wrap self (left *ℤ right) }
+    {
+        self.wrap(left.wrapping_mul(right))
+    }
+
     /// How many numbers the type has: 2 to the power of its bits.
-    fn size(self) -> i128
+    pub(crate) fn size(self) -> i128
         ensures { result ≡ pos (size self) }
     {
         match self {

@@ -3,8 +3,9 @@
 //! This is the ground that every other crate stands on: the four types of array elements, the
 //! thirty-one opcodes, and what each opcode makes of its inputs, on whole numbers.
 //!
-//! The promise: `width`, `least`, `greatest`, `holds` and `wrap` of `Elem` are the table of types, and
-//! each answer is exact for every `i128`. No call takes memory and none can fail.
+//! The promise: `width`, `least`, `greatest`, `holds` and `wrap` of `Elem` are the table of types, exact
+//! for every `i128`; `binary` and `unary` give the value of an opcode, and `fold_start` what a fold along
+//! an axis begins with. No call takes memory and none can fail.
 //!
 //! The definitions: `specs/Numbers.antt` has the types, the table of values (`whole`), what wrapping
 //! means (`wrap`), the value of an opcode (`value`) and the starts of folds (`fold_start`);
@@ -13,6 +14,8 @@
 
 mod code;
 mod elem;
+mod value;
 
 pub use code::Code;
 pub use elem::Elem;
+pub use value::{binary, fold_start, unary};

@@ -1,0 +1,6 @@
+mod Bits
+mod Answers
+mod Signed
+mod Unsigned
+mod Rounds
+mod Settled
