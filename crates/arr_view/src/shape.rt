@@ -43,4 +43,24 @@ impl Shape {
     {
         self.lengths.as_slice()
     }
+
+    /// An equal shape.
+    pub fn copied(&self) -> Shape
+        ensures { result ≡ self.now }
+    {
+        Shape {
+            lengths: copied_list(&self.lengths),
+        }
+    }
+}
+
+/// An equal list.
+pub(crate) fn copied_list<T: Copy + Default + Drop>(list: &ArrayVec<T, 4>) -> ArrayVec<T, 4>
+    ensures { result.items ≡ list.now.items }
+{
+    let mut copy = ArrayVec::new();
+    for item in list.iter() {
+        copy.push(*item);
+    }
+    copy
 }

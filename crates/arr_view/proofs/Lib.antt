@@ -1,0 +1,5 @@
+pub mod Places
+pub mod Counting
+pub mod Strides
+pub mod Spots
+pub mod Checks
