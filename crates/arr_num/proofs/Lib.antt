@@ -1,0 +1,5 @@
+pub mod Wrapping
+pub mod Products
+pub mod Powers
+pub mod Words
+pub mod Reading
