@@ -1,0 +1,6 @@
+//! Array operations.
+#![tactic(auto)]
+
+mod op;
+
+pub use op::{Op, Operand};
