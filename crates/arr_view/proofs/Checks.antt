@@ -72,3 +72,6 @@ lawful v e =
 
 pub same_rank : (v : Strided) → is_view v ≡ true → length v.strides ≡ length v.lengths
 same_rank v e = as_many v.lengths v.strides (lawful v e).kept
+
+pub at_most_four : (ns : List ℕ) → has_rank ns ≡ true → length ns ≤ 4
+at_most_four ns h = leb-true (length ns) 4 (and_parts (nat_le 1 (length ns)) (nat_le (length ns) 4) h).1

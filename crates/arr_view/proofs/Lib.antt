@@ -3,3 +3,4 @@ pub mod Counting
 pub mod Strides
 pub mod Spots
 pub mod Checks
+pub mod Walking

@@ -3,6 +3,8 @@
 
 mod shape;
 mod view;
+mod walk;
 
 pub use shape::Shape;
 pub use view::View;
+pub use walk::Walk;
