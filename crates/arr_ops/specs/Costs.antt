@@ -1,13 +1,13 @@
 -- What a block reads and writes outside itself, and what a plan costs.
-use Rattle.std.specs.Prelude.{ℕ, ◌+◌, ◌*◌, ◌==◌, List, [], ◌∷◌, ◌++◌, Bool, true, false, cond, not, ◌||◌, ◌&&◌, map}
-use Rattle.std.specs.List.{list_any, filter, flat_map}
+use Rattle.std.specs.Prelude.{ℕ, ◌+◌, ◌*◌, ◌==◌, List, [], ◌∷◌, ◌++◌, Bool, cond, not}
+use Rattle.std.specs.List.{filter, flat_map}
 use Rattle.arr_view.specs.Strided.{Strided}
-use Rattle.arr_view.specs.Views.{identical, positions, has}
+use Rattle.arr_view.specs.Views.{identical, positions}
 use Rattle.arr_ops.specs.Ops.{inputs, outputs, creates, freed_by}
 use Rattle.arr_ops.specs.Formed.{typed}
 use Rattle.arr_ops.specs.Plans.{ops_of, numbered}
 use Rattle.arr_num.specs.declared.elem.Elem.{Elem}
-use Rattle.arr_num.specs.declared.elem.Elem.TheVariants.{U8, I32, I64, U64}
+use Rattle.arr_num.specs.declared.elem.Elem.TheVariants.{U8}
 use Rattle.arr_ops.specs.declared.op.Op.{Op}
 use Rattle.arr_num.specs.Numbers.{width}
 

@@ -1,5 +1,5 @@
 -- From which memories a list may run.
-use Rattle.std.specs.Prelude.{ℕ, nat_lt, ◌==◌, List, [], ◌∷◌, ◌++◌, Bool, false, not, ◌||◌, ◌&&◌, map, length, Option, Some, None, is_none}
+use Rattle.std.specs.Prelude.{ℕ, nat_lt, List, [], ◌++◌, Bool, false, not, ◌||◌, ◌&&◌, map, length, Option, Some, None, is_none}
 use Rattle.std.specs.List.{list_all}
 use Rattle.std.specs.Option.{option_to_list}
 use Rattle.arr_num.specs.declared.elem.Elem.{Elem}

@@ -1,12 +1,11 @@
 -- Which operations and which lists of them there are.
-use Rattle.std.specs.Prelude.{ℕ, zero, suc, ℤ, pos, negsuc, ◌+◌, ◌-◌, ◌==◌, nat_lt, nat_le, List, [], ◌∷◌, ◌++◌, Bool, true, false, cond, not, ◌||◌, ◌&&◌, map, length, take, drop, get_or, Option, Some, None, is_some, is_none}
-use Rattle.std.specs.List.{list_any, list_all, flat_map, range_with_len}
+use Rattle.std.specs.Prelude.{ℕ, suc, ℤ, ◌==◌, nat_lt, List, [], ◌∷◌, ◌++◌, Bool, true, false, not, ◌||◌, ◌&&◌, map, length, take, drop, Option, Some, is_some, is_none}
+use Rattle.std.specs.List.{list_all, range_with_len}
 use Rattle.std.specs.Option.{option_to_list}
 use Rattle.arr_view.specs.Strided.{Strided}
-use Rattle.arr_view.specs.Views.{elements, places, positions, has, same_lists, repeated, is_view, repeats}
-use Rattle.arr_ops.specs.Ops.{views, view_of, inputs, outputs, freed, named}
-use Rattle.arr_num.specs.Kinds.{is_reduction, Kind, Binary, Unary, Counting, Reduction, Scan, Ending, Printing, kind}
-use Rattle.arr_ops.specs.Memory.{Memory, Cell}
+use Rattle.arr_view.specs.Views.{elements, positions, has, same_lists, is_view, repeats}
+use Rattle.arr_ops.specs.Ops.{views, inputs, outputs, freed, named}
+use Rattle.arr_num.specs.Kinds.{Kind, Binary, Unary, Counting, Reduction, Scan, Ending, Printing, kind}
 use Rattle.arr_num.specs.declared.elem.Elem.{Elem}
 use Rattle.arr_num.specs.declared.elem.Elem.TheVariants.{U8, I32, I64, U64}
 use Rattle.arr_ops.specs.declared.op.Op.{Op}

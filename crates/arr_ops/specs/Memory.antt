@@ -1,19 +1,17 @@
 -- What an operation does to the memory.
-use Rattle.std.specs.Prelude.{ℕ, zero, suc, ℤ, pos, negsuc, ◌+ℤ◌, ◌-ℤ◌, ◌*ℤ◌, ◌+◌, ◌*◌, ◌-◌, ◌^◌, ◌==◌, nat_lt, List, [], ◌∷◌, ◌++◌, Bool, true, false, cond, map, length, take, drop, get_or, set, replicate, Option, Some, None, slice_get}
-use Rattle.std.specs.Int.{int_rem_euclid}
-use Rattle.std.specs.List.{fold, flat_map, range_with_len, list_any}
+use Rattle.std.specs.Prelude.{ℕ, suc, ℤ, pos, ◌+◌, ◌*◌, ◌==◌, List, [], ◌∷◌, Bool, cond, map, take, drop, get_or, set, replicate, Option, Some, None}
+use Rattle.std.specs.List.{fold, flat_map, range_with_len}
 use Rattle.arr_view.specs.Strided.{Strided}
 use Rattle.arr_view.specs.Views.{elements, positions, has}
 use Rattle.arr_ops.specs.Ops.{freed}
-use Rattle.arr_num.specs.Kinds.{Kind, Binary, Unary, Counting, Reduction, Scan, Ending, Printing, kind}
-use Rattle.arr_num.specs.Numbers.{bits, wrap, value, least, greatest, fold_start}
+use Rattle.arr_num.specs.Kinds.{Kind, Reduction, Scan, Ending, Printing, kind}
+use Rattle.arr_num.specs.Numbers.{value, fold_start}
 use Rattle.arr_num.specs.declared.elem.Elem.{Elem}
-use Rattle.arr_num.specs.declared.elem.Elem.TheVariants.{U8, I32, I64, U64}
 use Rattle.arr_ops.specs.declared.op.Op.{Op}
 use Rattle.arr_ops.specs.declared.op.Operand.{Operand}
 use Rattle.arr_ops.specs.declared.op.Operand.TheVariants.{Array, Number}
 use Rattle.arr_num.specs.declared.code.Code.{Code}
-use Rattle.arr_num.specs.declared.code.Code.TheVariants.{Add, Subtract, Multiply, Divide, Mod, Power, Maximum, Minimum, BitwiseAnd, BitwiseOr, BitwiseXor, LeftShift, RightShift, Equal, NotEqual, Less, LessEqual, Greater, GreaterEqual, Absolute, Invert, Identity, Range, AddReduce, MultiplyReduce, MinimumReduce, MaximumReduce, AddAccumulate, MultiplyAccumulate, Free, Sync}
+use Rattle.arr_num.specs.declared.code.Code.TheVariants.{Range}
 
 pub record Cell : Type 0 where
   pub elem : Elem

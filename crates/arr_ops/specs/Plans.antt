@@ -1,10 +1,10 @@
 -- Legal plans, and what running one block after another leaves.
-use Rattle.std.specs.Prelude.{ℕ, zero, suc, ◌≡◌, ◌+◌, ◌<◌, ◌≤◌, nat_lt, nat_le, ◌==◌, List, [], ◌∷◌, ◌++◌, Bool, true, false, cond, not, ◌&&◌, ◌||◌, IsTrue, map, length, Option, Some, None, slice_get}
-use Rattle.std.specs.List.{list_any, list_all, enumerate_from, filter, sum_by, count_by}
+use Rattle.std.specs.Prelude.{ℕ, suc, nat_lt, nat_le, ◌==◌, List, [], ◌∷◌, Bool, true, false, cond, not, ◌&&◌, ◌||◌, length}
+use Rattle.std.specs.List.{list_all, enumerate_from}
 use Rattle.arr_view.specs.Views.{has}
 use Rattle.arr_ops.specs.Ops.{dep, fusible}
 use Rattle.arr_ops.specs.Formed.{all_pairs}
-use Rattle.arr_ops.specs.Memory.{Memory, step, eager}
+use Rattle.arr_ops.specs.Memory.{Memory, eager}
 use Rattle.arr_ops.specs.declared.op.Op.{Op}
 
 -- each operation with its number, from 1

@@ -1,12 +1,11 @@
 -- What a block keeps, loads and stores when it runs.
-use Rattle.std.specs.Prelude.{ℕ, ◌+◌, ◌/◌, ◌||◌, not, cond, List, [], ◌∷◌, Bool, map, get_or, length, Option}
+use Rattle.std.specs.Prelude.{ℕ, ◌+◌, ◌/◌, ◌||◌, not, cond, List, map, get_or, length}
 use Rattle.std.specs.List.{list_any, filter, flat_map}
-use Rattle.std.specs.Option.{option_to_list}
 use Rattle.arr_num.specs.Kinds.{is_reduction, is_scan}
 use Rattle.arr_view.specs.Strided.{Strided}
 use Rattle.arr_view.specs.Views.{identical, positions, has}
 use Rattle.arr_ops.specs.declared.op.Op.{Op}
-use Rattle.arr_ops.specs.Ops.{inputs, outputs, views, serial, freed_by}
+use Rattle.arr_ops.specs.Ops.{outputs, views, serial, freed_by}
 use Rattle.arr_ops.specs.Memory.{lengths_of, or_zero}
 use Rattle.arr_ops.specs.Plans.{ops_of, numbered}
 use Rattle.arr_ops.specs.Costs.{distinct, total, reads, writes, weight}
