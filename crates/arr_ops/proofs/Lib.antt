@@ -1,0 +1,14 @@
+pub mod Pairs
+pub mod Tests
+pub mod Reorder
+pub mod Blocks
+pub mod Writes
+pub mod Commute
+pub mod Apart
+pub mod Plans
+pub mod Lengths
+pub mod Typed
+pub mod Picked
+pub mod Alike
+pub mod Spots
+pub mod Independent

@@ -1,0 +1,13 @@
+pub mod Ops
+pub mod Memory
+pub mod Formed
+pub mod Fits
+pub mod Plans
+pub mod Costs
+pub mod Traffic
+pub mod Order
+pub mod Laws
+pub use Rattle.arr_num.specs.Numbers
+pub use Rattle.arr_num.specs.Kinds
+pub use Rattle.arr_view.specs.Strided
+pub use Rattle.arr_view.specs.Views

@@ -1,0 +1,3 @@
+pub mod Strided
+pub mod Views
+pub mod Walks

@@ -1,0 +1,66 @@
+//! Shapes: one to four lengths.
+ghost use Rattle.std.specs.Prelude.{◌≡◌, IsTrue};
+ghost use Rattle.arr_view.specs.Views.{has_rank, shape_from};
+
+use arrayvec::ArrayVec;
+use std::marker::Model;
+
+/// The lengths of one to four dimensions, the last of which runs fastest.
+#[derive(Debug, Drop, PartialEq, Eq)]
+pub struct Shape {
+    lengths: ArrayVec<u32, 4>,
+}
+
+impl Model for Shape {
+    ghost use Rattle.std.specs.Prelude.{ℕ, List, IsTrue};
+    ghost use Rattle.arr_view.specs.Views.{has_rank};
+
+    ghost Value = { List ℕ };
+
+    ghost view = { λ s. s.lengths.items };
+
+    ghost invariant = { λ s. IsTrue (has_rank s.lengths.items) };
+
+    ghost inverse = { λ lengths. record { lengths = record { items = lengths } } };
+}
+
+impl Shape {
+    /// The shape of these lengths; `None` exactly where there aren't one to four of them.
+    pub fn new(lengths: &[u32]) -> Option<Shape>
+        ensures { result ≡ shape_from lengths.now }
+    {
+        if lengths.is_empty() {
+            return None;
+        }
+        let lengths = ArrayVec::try_from(lengths).ok()?;
+        Some(Shape { lengths })
+    }
+
+    /// The lengths, of the first dimension first.
+    pub fn lengths(&self) -> &[u32]
+        ensures value { result.now ≡ self.now }
+        ensures rank { IsTrue (has_rank self.now) }
+    {
+        self.lengths.as_slice()
+    }
+
+    /// An equal shape.
+    pub fn copied(&self) -> Shape
+        ensures { result ≡ self.now }
+    {
+        Shape {
+            lengths: copied_list(&self.lengths),
+        }
+    }
+}
+
+/// An equal list.
+pub(crate) fn copied_list<T: Copy + Default + Drop>(list: &ArrayVec<T, 4>) -> ArrayVec<T, 4>
+    ensures { result.items ≡ list.now.items }
+{
+    let mut copy = ArrayVec::new();
+    for item in list.iter() {
+        copy.push(*item);
+    }
+    copy
+}
