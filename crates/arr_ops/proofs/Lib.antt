@@ -13,3 +13,4 @@ pub mod Alike
 pub mod Spots
 pub mod Independent
 pub mod Parts
+pub mod Merged

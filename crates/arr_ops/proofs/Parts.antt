@@ -1,10 +1,9 @@
 -- The tests of well_formed, part by part.
-use Rattle.std.proofs.Common.{◌≡◌, ℕ, zero, suc, ◌+◌, ◌-◌, ◌≤◌, ◌<◌, List, [], ◌∷◌, ◌++◌, Bool, true, false, cond, not, ◌||◌, ◌&&◌, length, get_or, take, drop, refl, ap, ap₂, sym, ◌∙◌, arith, length-take, length-drop}
-use Rattle.std.specs.Prelude.{nat_le, ◌==◌, is_some, is_none, IsSome, IsNone, Option, Some, None}
-use Rattle.std.specs.List.{list_all, range_with_len}
-use Rattle.std.proofs.lemmas.Bool.{and_parts, and_from, false≢true, le-leb, and_left, eqb-true, ne_eqb, eq-eqb}
+use Rattle.std.proofs.Common.{◌≡◌, ℕ, suc, ◌+◌, ◌-◌, ◌≤◌, ◌<◌, List, [], ◌∷◌, ◌++◌, Bool, true, false, cond, not, ◌||◌, ◌&&◌, length, get_or, take, drop, refl, ap, ap₂, sym, ◌∙◌, arith, length-drop}
+use Rattle.std.specs.Prelude.{nat_le, ◌==◌, is_some, is_none, Option, Some, None}
+use Rattle.std.specs.List.{range_with_len}
+use Rattle.std.proofs.lemmas.Bool.{and_parts, false≢true, le-leb, ne_eqb, eq-eqb}
 use Rattle.std.proofs.lemmas.List.{at_drop_more, at_drop_all, take-append-drop}
-use Rattle.std.proofs.lemmas.List.Folds.{list_all-append}
 use Rattle.arr_view.specs.Strided.{Strided}
 use Rattle.std.proofs.Common.{pos}
 use Rattle.std.proofs.lemmas.List.{length-map}
@@ -19,8 +18,8 @@ use Rattle.arr_num.specs.Kinds.{Kind, Binary, Unary, Counting, Reduction, Scan, 
 use Rattle.arr_num.specs.declared.code.Code.{Code}
 use Rattle.arr_num.specs.declared.code.Code.TheVariants.{Sync}
 use Rattle.arr_ops.specs.declared.op.Op.{Op}
-use Rattle.arr_ops.specs.Ops.{inputs, walked, keeps_bases, ends}
-use Rattle.arr_ops.specs.Formed.{dropped_axis, operands_kept, elementwise, plain, is_array, well_formed, with_slot, kind_kept}
+use Rattle.arr_ops.specs.Ops.{inputs, walked, keeps_bases}
+use Rattle.arr_ops.specs.Formed.{dropped_axis, operands_kept, elementwise, plain, is_array}
 
 pub and_true : (b : Bool) → b ≡ (b && true)
 and_true true = refl

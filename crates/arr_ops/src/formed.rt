@@ -142,7 +142,7 @@ fn same_lists(left: &[u32], right: &[u32]) -> bool
     left == right
 }
 
-fn same_elem(left: Elem, right: Elem) -> bool
+pub(crate) fn same_elem(left: Elem, right: Elem) -> bool
     ensures { result ≡ same_elem left right }
 {
     left == right

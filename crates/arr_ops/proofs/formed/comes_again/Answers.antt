@@ -1,4 +1,4 @@
-use Rattle.std.proofs.Common.{◌≡◌, ◌<◌, ◌≤◌, length, subst, ap, sym, ◌∙◌, arith, drop, ◌+◌}
+use Rattle.std.proofs.Common.{◌≡◌, length, ap, sym, ◌∙◌, arith, drop, ◌+◌}
 use Rattle.arr_view.specs.Views.{elements, positions, has}
 use Rattle.arr_ops.proofs.Parts.{has_more, has_here, has_none, length-elements}
 use Rattle.arr_ops.proofs.formed.comes_again.Goals as goal

@@ -1,4 +1,4 @@
-use Rattle.std.proofs.Common.{◌≡◌, ◌+◌, get_or, drop}
+use Rattle.std.proofs.Common.{◌≡◌, ◌+◌, drop}
 use Rattle.arr_view.specs.Views.{elements, has}
 use Rattle.arr_ops.proofs.formed.comes_again.Given as goal
 

@@ -1,8 +1,7 @@
-use Rattle.std.proofs.Common.{drop, ◌≡◌, ℕ, ◌+◌, ap, ap₂, sym, ◌∙◌, arith, ◌&&◌, Bool}
+use Rattle.std.proofs.Common.{drop, ◌+◌, ap, ap₂, sym, ◌∙◌, ◌&&◌}
 use Rattle.std.proofs.lemmas.List.{take_rest}
 use Rattle.arr_view.specs.Views.{same_lists}
-use Rattle.arr_ops.specs.Formed.{dropped_axis}
-use Rattle.arr_ops.proofs.Parts.{lacks, lacks_not, only_one}
+use Rattle.arr_ops.proofs.Parts.{lacks, lacks_not}
 use Rattle.arr_ops.proofs.formed.lacks_axis.Goals as goal
 
 pub returns-then-shape-whole : goal.returns-then-shape-whole

@@ -1,6 +1,6 @@
-use Rattle.std.proofs.Common.{◌≡◌, ◌<◌, ◌≤◌, length, subst, ap, sym, ◌∙◌, arith}
+use Rattle.std.proofs.Common.{◌≡◌, length, sym, ◌∙◌, arith}
 use Rattle.std.proofs.lemmas.List.{at_drop_all}
-use Rattle.arr_view.specs.Views.{elements, positions, has, repeated}
+use Rattle.arr_view.specs.Views.{elements, positions, repeated}
 use Rattle.arr_ops.proofs.Parts.{length-elements, repeats_more, repeats_here}
 use Rattle.arr_ops.proofs.formed.repeats.Goals as goal
 

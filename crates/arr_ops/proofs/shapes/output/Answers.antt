@@ -1,6 +1,6 @@
 use Rattle.std.proofs.Common.{refl, ◌≡◌, ap, sym, ◌∙◌, true, false, not, Bool}
 use Rattle.std.specs.Prelude.{is_some}
-use Rattle.arr_num.specs.Kinds.{kind, Kind}
+use Rattle.arr_num.specs.Kinds.{kind}
 use Rattle.arr_ops.specs.Ops.{keeps_bases}
 use Rattle.arr_ops.specs.Formed.{with_slot}
 use Rattle.arr_ops.proofs.Spots.{operands_of}

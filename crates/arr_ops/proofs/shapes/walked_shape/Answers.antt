@@ -1,5 +1,5 @@
-use Rattle.std.proofs.Common.{◌≡◌, ap, sym, ◌∙◌, true, false, not, Bool, refl}
-use Rattle.arr_num.specs.Kinds.{kind, Kind, Ending}
+use Rattle.std.proofs.Common.{◌≡◌, ap, sym, refl}
+use Rattle.arr_num.specs.Kinds.{kind, Ending}
 use Rattle.arr_ops.specs.Ops.{ends}
 use Rattle.arr_ops.specs.Formed.{with_slot}
 use Rattle.arr_ops.proofs.Spots.{operands_of}
