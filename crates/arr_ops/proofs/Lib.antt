@@ -14,3 +14,6 @@ pub mod Spots
 pub mod Independent
 pub mod Parts
 pub mod Merged
+pub mod Fits
+pub mod FitsLaw
+pub mod Serving

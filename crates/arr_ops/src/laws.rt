@@ -1,5 +1,5 @@
 //! Laws of formed lists. Each function does nothing: its contract is the law.
-ghost use Rattle.arr_ops.specs.Laws.{IndependentCommute, MergingSaves, NumbersStayTyped, PlansKeepMemory};
+ghost use Rattle.arr_ops.specs.Laws.{BlocksFit, IndependentCommute, MergingSaves, NumbersStayTyped, PlansKeepMemory};
 
 /// Every legal plan of a formed list, block after block in list order, leaves what the list leaves.
 pub fn plans_keep_memory()
@@ -19,4 +19,10 @@ pub fn numbers_stay_typed()
 /// One block costs at most what two blocks cost that have its operations between them.
 pub fn merging_saves()
     ensures { MergingSaves }
+{}
+
+/// Before each block of a legal plan of a formed list the memory fits the block's operations: each base that they need is there with
+/// its type, numbers of that type and every element that they name, and what they create or print into is not there.
+pub fn blocks_fit()
+    ensures { BlocksFit }
 {}
