@@ -4,7 +4,7 @@ ghost use Rattle.std.specs.Prelude.{◌≡◌};
 use arr_num::{Code, Elem};
 use arr_view::View;
 
-/// An input: an array or a constant.
+/// An input: an array or a constant (docs/LANGUAGE.md, "Operations").
 #[derive(Debug, Drop)]
 pub enum Operand {
     /// The elements of a view.
@@ -39,7 +39,7 @@ pub struct Op {
 }
 
 impl Operand {
-    /// An equal operand.
+    /// An equal operand (docs/MAP.md, "Copies").
     pub fn copied(&self) -> Operand
         ensures { result ≡ self.now }
     {
@@ -51,7 +51,7 @@ impl Operand {
 }
 
 impl Op {
-    /// An equal operation.
+    /// An equal operation (docs/MAP.md, "Copies").
     pub fn copied(&self) -> Op
         ensures { result ≡ self.now }
     {

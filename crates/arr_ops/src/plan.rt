@@ -6,7 +6,8 @@ ghost use Rattle.arr_ops.specs.Plans.{ascends};
 use std::alloc::{AllocError as NoMemory, Global};
 use std::marker::Model;
 
-/// The blocks of a plan in the order in which they run, each the ascending numbers of its operations, counted from 1.
+/// The blocks of a plan in the order in which they run, each the ascending numbers of its operations, counted from 1
+/// (docs/PLANS.md, "Legal plans").
 #[derive(Debug, Drop)]
 pub struct Plan {
     pub blocks: Vec<Vec<u32>>,
@@ -25,7 +26,7 @@ impl Model for Plan {
 }
 
 impl Plan {
-    /// An equal plan.
+    /// An equal plan (docs/MAP.md, "Copies"). Want of memory is its one refusal.
     pub fn copied(&self, alloc: Global) -> Result<Plan, NoMemory>
         ensures { IfOk result (λ copy. copy ≡ self.now) }
     {

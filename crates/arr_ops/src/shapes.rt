@@ -12,7 +12,7 @@ use arr_num::{Code, Elem};
 use arr_view::{Shape, View};
 
 /// The shape that an operation walks: its input's for a reduction and for SYNC, else its output's. `None` exactly for FREE. The
-/// operation is well formed, but a SYNC may lack its slot.
+/// operation is well formed, but a SYNC may lack its slot (docs/LANGUAGE.md, "Operations").
 pub fn walked_shape(op: &Op) -> Option<Shape>
     requires { IsTrue (well_formed (with_slot op.now)) }
     ensures shape { option_to_list result ≡ walked op.now }
@@ -34,7 +34,8 @@ pub fn walked_shape(op: &Op) -> Option<Shape>
     }
 }
 
-/// The view that an operation writes; `None` exactly for SYNC and FREE. The operation is well formed, but a SYNC may lack its slot.
+/// The view that an operation writes; `None` exactly for SYNC and FREE. The operation is well formed, but a SYNC may lack its slot
+/// (docs/LANGUAGE.md, "Operations").
 pub fn output(op: &Op) -> Option<View>
     requires { IsTrue (well_formed (with_slot op.now)) }
     ensures view { result ≡ op.now.out }
@@ -43,7 +44,7 @@ pub fn output(op: &Op) -> Option<View>
     copied_view(&op.out)
 }
 
-/// The views among the two operands, each in its operand's place.
+/// The views among the two operands, each in its operand's place (docs/LANGUAGE.md, "Operations").
 pub fn inputs(op: &Op) -> (Option<View>, Option<View>)
     ensures first { result.0 ≡ array_of op.now.first }
     ensures second { result.1 ≡ array_of op.now.second }
@@ -60,7 +61,7 @@ fn array(operand: &Option<Operand>) -> Option<View>
     }
 }
 
-/// How many bytes the elements of a view take in a type.
+/// How many bytes the elements of a view take in a type (docs/PLANS.md, "Cost").
 pub fn weight(view: &View, ty: Elem) -> u64
     ensures { result ≡ weight_of ty view.now }
 {
