@@ -1,6 +1,8 @@
-//! The tests of the whole repository: worked examples and tables of cases, through the public calls of the
-//! crates. Every other crate is proved and has no tests of its own.
+//! Tests of the whole project: worked scripts through `serve`, and tables of cases through the public calls of the crates
+//! below. No other crate has tests.
 #![tactic(auto)]
 
 #[cfg(test)]
 mod numbers;
+#[cfg(test)]
+mod views;

@@ -1,7 +1,7 @@
 -- Laws over a formed list, from what it says of its operations.
-use Rattle.std.proofs.Common.{◌≡◌, List, [], ◌∷◌, ◌++◌, Bool, true, Option, Some, None, refl, ap, sym, ◌∙◌, subst}
+use Rattle.std.proofs.Common.{◌≡◌, ◌∷◌, ◌++◌, true, Option, Some, None, refl, ap, sym, ◌∙◌, subst}
 use Rattle.std.proofs.lemmas.Bool.{and_from}
-use Rattle.std.specs.List.{AllByRecursion, list_all}
+use Rattle.std.specs.List.{AllByRecursion}
 use Rattle.arr_num.specs.declared.elem.Elem.{Elem}
 use Rattle.arr_num.specs.declared.elem.Elem.TheVariants.{U8, I32, I64, U64}
 use Rattle.arr_num.specs.Numbers.{in_type}
@@ -13,6 +13,7 @@ use Rattle.arr_ops.specs.Laws.{IndependentCommute, NumbersStayTyped, holds_type}
 use Rattle.arr_ops.proofs.Pairs.{All_weaker}
 use Rattle.arr_ops.proofs.Plans.{Beside, beside_all, commute_beside}
 use Rattle.arr_ops.proofs.Spots.{all_right, pairs_after, formed_of, held}
+use Rattle.arr_ops.proofs.Tests.{test_all}
 use Rattle.arr_ops.proofs.Typed.{CellFits, AllIn}
 
 pub independent_commute : IndependentCommute
@@ -25,10 +26,6 @@ same_elem_refl U8 = refl
 same_elem_refl I32 = refl
 same_elem_refl I64 = refl
 same_elem_refl U64 = refl
-
-pub test_all : {X : Type 0} (p : X → Bool) (xs : List X) → AllByRecursion (λ x. p x ≡ true) xs → list_all p xs ≡ true
-test_all p [] h = refl
-test_all p (x ∷ xs) h = and_from (p x) (list_all p xs) h.0 (test_all p xs h.1)
 
 cell_test : (t : Elem) (c : Option Cell) → CellFits t c → holds_type t c ≡ true
 cell_test t None h = refl

@@ -12,3 +12,8 @@ pub mod Picked
 pub mod Alike
 pub mod Spots
 pub mod Independent
+pub mod Parts
+pub mod Merged
+pub mod Fits
+pub mod FitsLaw
+pub mod Serving

@@ -143,7 +143,7 @@ plain_at op o out well h =
 
 -- ---- what an operation reads is of its type
 
-computes_of : (k : Kind) (f : Op) (o : Strided) → f.out ≡ Some o → operands_kept k f ≡ true → Computes k
+pub computes_of : (k : Kind) (f : Op) (o : Strided) → f.out ≡ Some o → operands_kept k f ≡ true → Computes k
 computes_of Binary f o e h = tt
 computes_of Unary f o e h = tt
 computes_of Counting f o e h = tt
@@ -167,7 +167,7 @@ typed_alike f op o v e h =
     All_weaker (λ (w : Strided). (not (o.base == w.base) || same_elem f.to op.from) ≡ true) (λ (w : Strided). (o.base == w.base) ≡ true → f.to ≡ op.from)
     (λ w t s. same_elem_is f.to op.from (ap (λ k. not k || same_elem f.to op.from) (sym s) ∙ t)) (inputs op) (all_mapped P (λ (w : Strided). (w.base, op.from)) (inputs op) c)
 
-first_typed : (f op : Op) (out : Option Strided) (o : Strided) → out ≡ Some o
+pub first_typed : (f op : Op) (out : Option Strided) (o : Strided) → out ≡ Some o
     → AllByRecursion (λ (p : ℕ × Elem). list_all (λ (q : ℕ × Elem). not (p.0 == q.0) || same_elem p.1 q.1) (typed op) ≡ true) (output_type out f.to)
     → AllByRecursion (λ (q : ℕ × Elem). (not (o.base == q.0) || same_elem f.to q.1) ≡ true) (typed op)
 first_typed f op None o e h = absurd (cc)

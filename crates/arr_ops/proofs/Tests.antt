@@ -1,5 +1,5 @@
 -- From tests that pass to facts on each element and on each pair.
-use Rattle.std.proofs.Common.{◌≡◌, ℕ, ◌+◌, List, [], ◌∷◌, Bool, true, false, ◌||◌, ◌&&◌, refl}
+use Rattle.std.proofs.Common.{◌≡◌, ℕ, ◌+◌, List, [], ◌∷◌, Bool, true, false, ◌||◌, ◌&&◌, refl, ap₂}
 use Rattle.std.proofs.lemmas.Bool.{false≢true, eqb-true}
 use Rattle.std.specs.Prelude.{◌==◌}
 use Rattle.std.specs.List.{AllByRecursion, list_all, enumerate_from}
@@ -57,3 +57,7 @@ same_from_test (x ∷ xs) (y ∷ ys) e =
 pub or_cases : {P : Type 0} (a b : Bool) → (a || b) ≡ true → (a ≡ true → P) → (b ≡ true → P) → P
 or_cases true b e f g = f refl
 or_cases false b e f g = g e
+
+pub test_all : {X : Type 0} (p : X → Bool) (xs : List X) → AllByRecursion (λ x. p x ≡ true) xs → list_all p xs ≡ true
+test_all p [] h = refl
+test_all p (x ∷ xs) h = ap₂ (λ a b. a && b) h.0 (test_all p xs h.1)

@@ -117,7 +117,7 @@ set_in t [] p x a h = tt
 set_in t (n ∷ ns) zero x a h = (h, a.1)
 set_in t (n ∷ ns) (suc p) x a h = (a.0, set_in t ns p x a.1 h)
 
-write_in : (t : Elem) (ps : List ℕ) (xs ns : List ℤ) → AllIn t xs → AllIn t ns → AllIn t (write ps xs ns)
+pub write_in : (t : Elem) (ps : List ℕ) (xs ns : List ℤ) → AllIn t xs → AllIn t ns → AllIn t (write ps xs ns)
 write_in t [] xs ns a b = b
 write_in t (p ∷ ps) [] ns a b = b
 write_in t (p ∷ ps) (x ∷ xs) ns a b = write_in t ps xs (set ns p x) a.1 (set_in t ns p x b a.0)

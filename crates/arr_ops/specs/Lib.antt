@@ -11,3 +11,4 @@ pub use Rattle.arr_num.specs.Numbers
 pub use Rattle.arr_num.specs.Kinds
 pub use Rattle.arr_view.specs.Strided
 pub use Rattle.arr_view.specs.Views
+pub mod Examples

@@ -5,7 +5,7 @@ ghost use Rattle.arr_view.specs.Views.{has_rank, shape_from};
 use arrayvec::ArrayVec;
 use std::marker::Model;
 
-/// The lengths of one to four dimensions, the last of which runs fastest.
+/// The lengths of one to four dimensions, the last of which runs fastest (docs/LANGUAGE.md, "Views").
 #[derive(Debug, Drop, PartialEq, Eq)]
 pub struct Shape {
     lengths: ArrayVec<u32, 4>,
@@ -25,7 +25,8 @@ impl Model for Shape {
 }
 
 impl Shape {
-    /// The shape of these lengths; `None` exactly where there aren't one to four of them.
+    /// The shape of these lengths, the first dimension's first; `None` exactly where there aren't one to four of them
+    /// (docs/LANGUAGE.md, "Views").
     pub fn new(lengths: &[u32]) -> Option<Shape>
         ensures { result ≡ shape_from lengths.now }
     {
@@ -36,7 +37,7 @@ impl Shape {
         Some(Shape { lengths })
     }
 
-    /// The lengths, of the first dimension first.
+    /// The lengths, the first dimension's first (docs/LANGUAGE.md, "Views").
     pub fn lengths(&self) -> &[u32]
         ensures value { result.now ≡ self.now }
         ensures rank { IsTrue (has_rank self.now) }
@@ -44,7 +45,7 @@ impl Shape {
         self.lengths.as_slice()
     }
 
-    /// An equal shape.
+    /// An equal shape (docs/MAP.md, "Copies").
     pub fn copied(&self) -> Shape
         ensures { result ≡ self.now }
     {

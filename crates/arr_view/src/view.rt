@@ -7,7 +7,7 @@ use crate::shape::copied_list;
 use arrayvec::ArrayVec;
 use std::marker::Model;
 
-/// A strided view of a base.
+/// A strided view of a base (docs/LANGUAGE.md, "Views").
 #[derive(Debug, Drop, PartialEq, Eq)]
 pub struct View {
     base: u32,
@@ -32,7 +32,7 @@ impl Model for View {
 }
 
 /// A view has at most this many positions, and its elements lie below this number.
-pub const MOST: u32 = 1_048_576;
+const MOST: u32 = 1_048_576;
 
 /// The number of positions of a shape; `None` where a length is 0 or there are too many positions.
 fn counted(lengths: &[u32]) -> Option<u32>
@@ -115,7 +115,8 @@ fn gapless(lengths: &[u32], count: u32) -> ArrayVec<i32, 4>
 impl View {
     /// The view of a base that starts at an element and has these lengths and strides, those of the first dimension first.
     /// `None` exactly where it is no view: it has not one to four dimensions, not as many strides as lengths, a length of 0, more
-    /// than 1,048,576 positions, or an element that does not lie from 0 to 1,048,575. A stride of a dimension of length 1 is kept as 0.
+    /// than 1,048,576 positions, or an element that does not lie from 0 to 1,048,575. A stride of a dimension of length 1 is kept as 0
+    /// (docs/LANGUAGE.md, "Views").
     pub fn new(base: u32, start: u32, shape: &[u32], strides: &[i32]) -> Option<View>
         ensures { result ≡ view_from base start shape.now strides.now }
     {
@@ -136,7 +137,8 @@ impl View {
         })
     }
 
-    /// The view of a whole base of this shape, in order; `None` exactly where `View::new` refuses its parts.
+    /// The view of a whole base of this shape, in order; `None` exactly where the shape has not one to four lengths, a length of 0 or
+    /// more than 1,048,576 positions (docs/LANGUAGE.md, "Views").
     pub fn whole(base: u32, shape: &[u32]) -> Option<View>
         ensures { result ≡ checked (whole_view base shape.now) }
     {
@@ -147,7 +149,7 @@ impl View {
         View::new(base, 0, shape, strides.as_slice())
     }
 
-    /// An equal view.
+    /// An equal view (docs/MAP.md, "Copies").
     pub fn copied(&self) -> View
         ensures { result ≡ self.now }
     {
@@ -159,7 +161,7 @@ impl View {
         }
     }
 
-    /// The number of positions.
+    /// The number of positions (docs/LANGUAGE.md, "Views").
     pub fn positions(&self) -> u32
         ensures value { result ≡ positions self.now.lengths }
         ensures lawful { IsTrue (is_view self.now) }
@@ -167,7 +169,7 @@ impl View {
         counted(self.shape.as_slice()).unwrap()
     }
 
-    /// The element at a position, counted from 0 in row-major order.
+    /// The element, counted from 0, at a position, counted from 0 in row-major order (docs/LANGUAGE.md, "Views").
     pub fn element(&self, position: u32) -> u32
         requires { position < positions self.now.lengths }
         ensures value { result ≡ get_or (elements self.now) position 0 }
@@ -184,7 +186,7 @@ impl View {
         place as u32
     }
 
-    /// The number of the base, from 0.
+    /// The number of the base, from 0 (docs/LANGUAGE.md, "Views").
     pub fn base(&self) -> u32
         ensures value { result ≡ self.now.base }
         ensures lawful { IsTrue (is_view self.now) }
@@ -192,7 +194,7 @@ impl View {
         self.base
     }
 
-    /// The element at index 0 in every dimension, from 0.
+    /// The element, counted from 0, at index 0 in every dimension (docs/LANGUAGE.md, "Views").
     pub fn start(&self) -> u32
         ensures value { result ≡ self.now.start }
         ensures lawful { IsTrue (is_view self.now) }
@@ -200,7 +202,7 @@ impl View {
         self.start
     }
 
-    /// The lengths, of the first dimension first.
+    /// The lengths, the first dimension's first (docs/LANGUAGE.md, "Views").
     pub fn shape(&self) -> &[u32]
         ensures value { result.now ≡ self.now.lengths }
         ensures lawful { IsTrue (is_view self.now) }
@@ -208,7 +210,7 @@ impl View {
         self.shape.as_slice()
     }
 
-    /// The strides in elements, of the first dimension first.
+    /// The strides in elements, the first dimension's first (docs/LANGUAGE.md, "Views").
     pub fn strides(&self) -> &[i32]
         ensures value { result.now ≡ self.now.strides }
         ensures lawful { IsTrue (is_view self.now) }

@@ -7,7 +7,7 @@ ghost use Rattle.arr_view.specs.Views.{elements};
 use crate::View;
 use std::marker::Model;
 
-/// The elements of a view that are still to come, in row-major order.
+/// The elements of a view that are still to come, in row-major order (docs/LANGUAGE.md, "Views").
 ///
 /// The walk counts down the steps that are left in each of four dimensions, and keeps for each the place where its current step
 /// begins, so that it advances by additions alone. Dimensions that the view lacks have length 1.
@@ -62,7 +62,7 @@ fn restart(lengths: &[u32], left: &mut [u32], places: &mut [i64], level: usize, 
 }
 
 impl Walk {
-    /// A walk over the elements of a view.
+    /// A walk over the elements of a view (docs/LANGUAGE.md, "Views").
     pub fn new(view: &View) -> Walk
         ensures { result ≡ elements view.now }
     {
