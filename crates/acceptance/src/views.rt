@@ -1,7 +1,7 @@
 //! Views against a plain computation of their elements, and each way in which a view or a list of operations is refused.
 
 use arr_num::{Code, Elem};
-use arr_ops::{Op, Operand, Plan, inputs, list_formed, weight, well_formed};
+use arr_ops::{Op, Operand, Plan, inputs, list_formed, output, walked_shape, weight, well_formed};
 use arr_view::{Shape, View, Walk};
 use std::alloc::Global;
 use std::test::Fail;
@@ -103,7 +103,7 @@ fn views_agree_with_a_plain_computation(rt: HostRuntime) -> Result<(), Fail> {
 }
 
 #[test]
-fn views_are_refused_by_each_rule(rt: HostRuntime) {
+fn views_are_refused_by_their_shape(rt: HostRuntime) {
     assert!(rt; View::new(0, 0, &[], &[]).is_none(), "no dimension");
     assert!(rt;
         View::new(0, 0, &[1, 1, 1, 1, 1], &[0, 0, 0, 0, 0]).is_none(),
@@ -121,16 +121,15 @@ fn views_are_refused_by_each_rule(rt: HostRuntime) {
         View::new(0, 0, &[1024, 1025], &[0, 0]).is_none(),
         "too many positions"
     );
+    let most = [u32::MAX; 4];
     assert!(rt;
-        View::new(
-            0,
-            0,
-            &[4294967295, 4294967295, 4294967295, 4294967295],
-            &[0, 0, 0, 0]
-        )
-        .is_none(),
+        View::new(0, 0, &most, &[0; 4]).is_none(),
         "far too many positions"
     );
+}
+
+#[test]
+fn views_are_refused_by_their_elements(rt: HostRuntime) {
     assert!(rt;
         View::new(0, 2, &[4], &[-1]).is_none(),
         "an element below 0"
@@ -140,13 +139,17 @@ fn views_are_refused_by_each_rule(rt: HostRuntime) {
         "an element past the end"
     );
     assert!(rt;
-        View::new(0, 4294967295, &[2], &[-2147483648]).is_none(),
+        View::new(0, u32::MAX, &[2], &[i32::MIN]).is_none(),
         "a start past the end"
     );
     assert!(rt;
         View::new(0, 0, &[1048576], &[1]).is_some(),
         "every element of the largest base"
     );
+}
+
+#[test]
+fn whole_bases_and_shapes_are_refused(rt: HostRuntime) {
     assert!(rt;
         View::whole(0, &[]).is_none(),
         "a whole base of no dimension"
@@ -233,14 +236,13 @@ fn free(base: u32) -> Result<Op, Fail> {
 }
 
 #[test]
-fn operations_are_refused_by_each_rule(rt: HostRuntime) -> Result<(), Fail> {
+fn operations_have_the_parts_of_their_code(rt: HostRuntime) -> Result<(), Fail> {
     assert!(rt; well_formed(&add(2, 0, 1)?), "an ADD");
     assert!(rt; well_formed(&sum(2, 0)?), "a sum");
     assert!(rt;
         well_formed(&print(0, 1)?) && well_formed(&free(0)?),
         "SYNC and FREE"
     );
-
     let mut op = add(2, 0, 1)?;
     op.second = None;
     assert!(rt; !well_formed(&op), "an operand is missing");
@@ -248,33 +250,50 @@ fn operations_are_refused_by_each_rule(rt: HostRuntime) -> Result<(), Fail> {
     assert!(rt; well_formed(&op), "a code of one input");
     op.slot = Some(1);
     assert!(rt; !well_formed(&op), "a slot where there is none");
+    Ok(())
+}
 
+#[test]
+fn operations_have_operands_of_their_code(rt: HostRuntime) -> Result<(), Fail> {
     let mut op = add(2, 0, 1)?;
     op.code = Code::Range;
     assert!(rt; !well_formed(&op), "RANGE with operands");
     op.code = Code::Identity;
     assert!(rt; !well_formed(&op), "IDENTITY with two operands");
-
-    let mut op = add(2, 0, 1)?;
+    op.code = Code::Add;
     op.first = Some(Operand::Array(line(0, 3)?));
     assert!(rt; !well_formed(&op), "shapes that differ");
+    Ok(())
+}
 
+#[test]
+fn operations_have_types_of_their_code(rt: HostRuntime) -> Result<(), Fail> {
     let mut op = add(2, 0, 1)?;
     op.to = Elem::U8;
     assert!(rt; !well_formed(&op), "types that differ");
     op.code = Code::Less;
     assert!(rt; well_formed(&op), "a comparison gives u8");
-    op.code = Code::Power;
+    op.code = Code::Add;
     op.to = Elem::I64;
+    op.second = Some(Operand::Number(18446744073709551615));
+    assert!(rt; !well_formed(&op), "a constant outside its type");
+    Ok(())
+}
+
+#[test]
+fn exponents_are_constants_from_0(rt: HostRuntime) -> Result<(), Fail> {
+    let mut op = add(2, 0, 1)?;
+    op.code = Code::Power;
     assert!(rt; !well_formed(&op), "an exponent that is an array");
     op.second = Some(Operand::Number(18446744073709551615));
     assert!(rt; well_formed(&op), "the greatest exponent");
     op.second = Some(Operand::Number(-1));
     assert!(rt; !well_formed(&op), "an exponent below 0");
-    op.code = Code::Add;
-    op.second = Some(Operand::Number(18446744073709551615));
-    assert!(rt; !well_formed(&op), "a constant outside its type");
+    Ok(())
+}
 
+#[test]
+fn outputs_never_repeat_and_creators_write_all(rt: HostRuntime) -> Result<(), Fail> {
     let mut op = add(2, 0, 1)?;
     op.makes = false;
     op.out = Some(View::new(2, 0, &[4], &[0]).ok_or("a view")?);
@@ -287,7 +306,11 @@ fn operations_are_refused_by_each_rule(rt: HostRuntime) -> Result<(), Fail> {
         !well_formed(&add(2, 2, 1)?),
         "a creator that reads its base"
     );
+    Ok(())
+}
 
+#[test]
+fn folds_run_along_an_axis(rt: HostRuntime) -> Result<(), Fail> {
     let mut op = sum(2, 0)?;
     op.axis = Some(1);
     assert!(rt; !well_formed(&op), "an axis out of range");
@@ -302,7 +325,7 @@ fn operations_are_refused_by_each_rule(rt: HostRuntime) -> Result<(), Fail> {
 }
 
 #[test]
-fn lists_are_refused_by_each_rule(rt: HostRuntime) -> Result<(), Fail> {
+fn lists_number_their_slots(rt: HostRuntime) -> Result<(), Fail> {
     assert!(rt; list_formed(&[]), "the empty list");
     assert!(rt;
         list_formed(&[
@@ -320,11 +343,11 @@ fn lists_are_refused_by_each_rule(rt: HostRuntime) -> Result<(), Fail> {
     );
     assert!(rt; !list_formed(&[print(0, 2)?]), "slots that begin at 2");
     assert!(rt; !list_formed(&[print(0, 1)?, print(0, 1)?]), "a slot twice");
+    Ok(())
+}
 
-    let mut op = add(2, 0, 1)?;
-    op.from = Elem::U8;
-    op.to = Elem::U8;
-    assert!(rt; !list_formed(&[op, print(2, 1)?]), "two types of a base");
+#[test]
+fn lists_name_a_base_while_it_lives(rt: HostRuntime) -> Result<(), Fail> {
     assert!(rt;
         !list_formed(&[print(2, 1)?, add(2, 0, 1)?]),
         "a base named before its creator"
@@ -338,7 +361,15 @@ fn lists_are_refused_by_each_rule(rt: HostRuntime) -> Result<(), Fail> {
         "a base named after its FREE"
     );
     assert!(rt; !list_formed(&[free(0)?, free(0)?]), "two FREEs of a base");
+    Ok(())
+}
 
+#[test]
+fn lists_agree_on_a_base(rt: HostRuntime) -> Result<(), Fail> {
+    let mut op = add(2, 0, 1)?;
+    op.from = Elem::U8;
+    op.to = Elem::U8;
+    assert!(rt; !list_formed(&[op, print(2, 1)?]), "two types of a base");
     let mut long = print(2, 1)?;
     long.first = Some(Operand::Array(line(2, 5)?));
     assert!(rt;
@@ -359,5 +390,15 @@ fn operations_and_plans_are_copied(rt: HostRuntime) -> Result<(), Fail> {
     blocks.push([1, 2].to_vec(rt.alloc())?)?;
     let plan = Plan { blocks };
     assert_eq!(rt; plan.copied(rt.alloc())?.blocks.len(), 1);
+    Ok(())
+}
+
+#[test]
+fn a_sum_walks_its_input(rt: HostRuntime) -> Result<(), Fail> {
+    let mut op = sum(3, 2)?;
+    op.code = Code::AddReduce;
+    assert!(rt; well_formed(&op));
+    assert_eq!(rt; walked_shape(&op), Shape::new(&[4]));
+    assert!(rt; output(&op) == Some(line(3, 1)?));
     Ok(())
 }

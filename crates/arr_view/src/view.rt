@@ -1,6 +1,6 @@
 //! Views: the elements of a base that a start, a shape and strides pick out.
-ghost use Rattle.std.specs.Prelude.{◌≡◌, ◌≤◌, ◌<◌, ◌-◌, ◌*ℤ◌, ◌&&◌, unsigned_abs, IsTrue, Some, None, true, cond, length, get_or, pos, nat_le};
-ghost use Rattle.std.specs.List.{list_all};
+ghost use Rattle.std.specs.Prelude.{◌≡◌, ◌≤◌, ◌<◌, ◌-◌, ◌*ℤ◌, ◌&&◌, unsigned_abs, IsTrue, Some, None, IfSome, true, cond, length, get_or, pos, nat_le};
+ghost use Rattle.std.specs.List.{list_all, range_with_len};
 ghost use Rattle.arr_view.specs.Views.{is_view, is_place, places, positions, elements, view_from, whole_view, whole_strides, checked, kept_strides};
 
 use crate::shape::copied_list;
@@ -140,7 +140,8 @@ impl View {
     /// The view of a whole base of this shape, in order; `None` exactly where the shape has not one to four lengths, a length of 0 or
     /// more than 1,048,576 positions (docs/LANGUAGE.md, "Views").
     pub fn whole(base: u32, shape: &[u32]) -> Option<View>
-        ensures { result ≡ checked (whole_view base shape.now) }
+        ensures value { result ≡ checked (whole_view base shape.now) }
+        ensures in_order { IfSome result (λ view. elements view ≡ range_with_len 0 (positions shape.now)) }
     {
         if shape.len() > 4 {
             return None;
