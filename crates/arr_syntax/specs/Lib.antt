@@ -1,0 +1,5 @@
+pub mod Grammar
+pub mod Machine
+pub mod Limits
+pub mod Run
+pub mod Refused

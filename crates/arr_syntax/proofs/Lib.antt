@@ -1,0 +1,5 @@
+pub mod Completes
+pub mod Filling
+pub mod Forward
+pub mod Backward
+pub mod Completable
