@@ -3,3 +3,5 @@ pub mod Filling
 pub mod Forward
 pub mod Backward
 pub mod Completable
+pub mod Reading
+pub mod Unique
