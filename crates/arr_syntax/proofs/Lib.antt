@@ -5,3 +5,4 @@ pub mod Backward
 pub mod Completable
 pub mod Reading
 pub mod Unique
+pub mod Cutting

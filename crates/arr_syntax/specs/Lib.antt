@@ -3,3 +3,4 @@ pub mod Machine
 pub mod Limits
 pub mod Run
 pub mod Refused
+pub mod Tokens

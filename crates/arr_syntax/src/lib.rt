@@ -6,6 +6,7 @@ mod parts;
 mod refusal;
 mod stack;
 mod state;
+mod text;
 mod token;
 mod tree;
 
