@@ -48,17 +48,17 @@ use Rattle.arr_syntax.proofs.Forward.{climb_most, operator_within, again_same, a
 
 pub le_cases : (n k : ℕ) → n ≤ suc k → (n ≤ k) ⊎ (n ≡ suc k)
 le_cases n k h = elim (nat_le n k) as (λ v. nat_le n k ≡ v → (n ≤ k) ⊎ (n ≡ suc k)) [
-    | true ↦ λ e. inl (grind (arith, nat_tests))
-    | false ↦ λ e. inr (let l : k < n = grind (arith, nat_tests) in omega arith)
-  ] refl
+  | true ↦ λ e. inl (grind (arith, nat_tests))
+  | false ↦ λ e. inr (let l : k < n = grind (arith, nat_tests) in omega arith)
+] refl
 
 -- nothing need follow at the levels below
 pub lower : (k n m : ℕ) (t u : Expr) (a b : List Item) → n ≤ k → Climb k m t a u b → Climb n m t a u b
 lower zero n m t u a b h c = let e : 0 ≡ n = omega arith in subst (λ (v : ℕ). Climb v m t a u b) e c
 lower (suc k) n m t u a b h c = elim (le_cases n k h) [
-    | inl l ↦ lower k n m t u a b l (up grammar.stop c)
-    | inr e ↦ subst (λ (v : ℕ). Climb v m t a u b) (sym e) c
-  ]
+  | inl l ↦ lower k n m t u a b l (up grammar.stop c)
+  | inr e ↦ subst (λ (v : ℕ). Climb v m t a u b) (sym e) c
+]
 
 pub stops : (n m : ℕ) (t : Expr) (a : List Item) → n ≤ m → Climb n m t a t a
 stops n m t a h = lower m n m t t a a h there

@@ -227,9 +227,11 @@ module _ (K : Fields → List Item → List Statement → Type 0) (can : (f : Fi
   part_can part.Length f = let x = can (record f { shape = f.shape ++ 0 ∷ [] }) in
       (zero_number ∷ some_sign sign.CloseIndex ∷ x.0, x.1, (0 ∷ [], x.0, grammar.last (grammar.one_length refl) refl, x.2))
   part_can part.MoreLengths f = let x = can f in (some_sign sign.CloseIndex ∷ x.0, x.1, inl (refl, x.2))
-  part_can part.Strides f = let x = can (record f { strides_at = nowhere; strides = f.strides ++ pos 0 ∷ [] }) in
-      (some_sign sign.OpenIndex ∷ zero_number ∷ some_sign sign.CloseIndex ∷ x.0, x.1,
-      (nowhere, pos 0 ∷ [], x.0, grammar.bracketed refl (grammar.last (grammar.one_stride {negative = false} (grammar.plain refl)) refl), x.2))
+  part_can part.Strides f = let x = can (record f { strides_at = nowhere; strides = f.strides ++ pos 0 ∷ [] }) in (
+    some_sign sign.OpenIndex ∷ zero_number ∷ some_sign sign.CloseIndex ∷ x.0,
+    x.1,
+    (nowhere, pos 0 ∷ [], x.0, grammar.bracketed refl (grammar.last (grammar.one_stride {negative = false} (grammar.plain refl)) refl), x.2),
+  )
   part_can part.Stride f = let x = can (record f { strides = f.strides ++ pos 0 ∷ [] }) in
       (zero_number ∷ some_sign sign.CloseIndex ∷ x.0, x.1, (pos 0 ∷ [], x.0, grammar.last (grammar.one_stride {negative = false} (grammar.plain refl)) refl, x.2))
   part_can part.NegativeStride f = let x = can (record f { strides = f.strides ++ neg_ℤ (pos 0) ∷ [] }) in
@@ -261,8 +263,11 @@ value_tree m ts h = climbed 0 m (literal_at nowhere false 0) (literal_at nowhere
     (grammar.primary (grammar.literal (grammar.plain refl))) (stops 0 m (literal_at nowhere false 0) ts h)
 
 value_can : (h : Head) → Can (ValueIn h)
-value_can h = (zero_number ∷ some token.End ∷ [], machine.stated h (literal_at nowhere false 0) ∷ [],
-    (literal_at nowhere false 0, some token.End ∷ [], value_tree 9 (some token.End ∷ []) (omega arith), ([], grammar.finish refl, refl)))
+value_can h = (
+  zero_number ∷ some token.End ∷ [],
+  machine.stated h (literal_at nowhere false 0) ∷ [],
+  (literal_at nowhere false 0, some token.End ∷ [], value_tree 9 (some token.End ∷ []) (omega arith), ([], grammar.finish refl, refl)),
+)
 
 argued_can : (B : ℕ → Expr → List Item → List Statement → Type 0) → ((t : Expr) → Can (B 0 t)) → (c : Callee) (at : Place) (u : Expr) → Can (λ b r. Argued c at u b (λ m v d. B m v d r))
 argued_can B can (callee.Fold c) at u = node_can B can (node.Fold c u) at refl

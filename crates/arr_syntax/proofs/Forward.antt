@@ -278,7 +278,6 @@ module _ (i : Item) (r : List Statement) where
   give_on (frame.Invert at ∷ s) n t ts w g = choose (frame.Invert at) s n t ts w g (λ k. give_on s 2 (unary_at at code.Invert t) ts w.1 k)
   give_on (frame.Operand m c at l ∷ s) n t ts w g = choose (frame.Operand m c at l) s n t ts w g (λ k. give_on s (again m) (binary_at at c l t) ts w.3 k)
 
-
   argument_in : (m : Mode) (c : Callee) (at : Place) (t : Expr) (a b : List Item) → Argument m a t b → Tree m (wanted_by (frame.Argument m c at)) a t b
   argument_in m c at t a b (grammar.value l) = l
   argument_in m c at t a b (grammar.place l) = l
@@ -289,7 +288,7 @@ module _ (i : Item) (r : List Statement) where
   view_on m s t ts b (grammar.transpose e o l close) g = (Transpose, e, (o, (_, _, argument_in m (callee.View Transpose) i.at _ _ _ l, (close, g))))
   view_on m s t ts b (grammar.reshape e o l comma shape close) g = (Reshape, e, (o, (_, _, argument_in m (callee.View Reshape) i.at _ _ _ l, (comma, (_, _, _, shape, (close, g))))))
   view_on m s t ts b (grammar.strided e o l comma number second shape third strides close) g =
-      (Strided, e, (o, (_, _, argument_in m (callee.View Strided) i.at _ _ _ l, (comma, (_, number, (second, (_, _, _, shape, (third, (_, _, _, strides, (close, g)))))))))) 
+      (Strided, e, (o, (_, _, argument_in m (callee.View Strided) i.at _ _ _ l, (comma, (_, number, (second, (_, _, _, shape, (third, (_, _, _, strides, (close, g))))))))))
 
   primary_on : (s : List Frame) (t : Expr) (ts b : List Item) → Primary (i ∷ ts) t b → Given 0 s t b r → Next (machine.begins_value i.token i.at s) ts r
   primary_on s t ts b (grammar.literal (grammar.plain e)) g = rw e g

@@ -6,3 +6,4 @@ pub mod Completable
 pub mod Reading
 pub mod Unique
 pub mod Cutting
+pub mod Runs

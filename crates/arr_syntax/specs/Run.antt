@@ -30,6 +30,10 @@ count_fault used t = if is_counted t && nat_le length_limit used then Some State
 abbrev pub open_fault : ℕ → Token → Option Kind
 open_fault open_now t = if is_opening t && nat_le open_limit open_now then Some TooDeep else None
 
+abbrev pub is_stuck : Move → Bool
+is_stuck move.Stuck = true
+is_stuck _ = false
+
 abbrev pub unless : {A : Type 0} → Option Kind → Result A Kind → Result A Kind
 unless (Some k) r = Err k
 unless None r = r
@@ -75,3 +79,12 @@ abbrev pub is_text : List Item → Bool
 is_text [] = false
 is_text (i ∷ []) = is_end i.token
 is_text (i ∷ j ∷ is) = not (is_end i.token) && is_text (j ∷ is)
+
+-- nothing comes behind the end
+abbrev pub behind : Item → List Item → List Item
+behind i is = if is_end i.token then [] else is
+
+-- The fault is the refusal that the reading gives, or want of memory.
+abbrev pub Refuses : ParseFault → Reading → Type 0
+Refuses NoMemory reading = Unit {0}
+Refuses (Refused r) reading = reading ≡ Err r

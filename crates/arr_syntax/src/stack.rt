@@ -13,7 +13,6 @@ pub struct Stack {
 impl Model for Stack {
     ghost use Rattle.std.specs.Prelude.{List, reverse};
     ghost use Rattle.arr_syntax.specs.declared.state.Frame.{Frame};
-
     ghost use Rattle.arr_syntax.specs.contracts.state.Frame as frame;
     ghost use Rattle.std.specs.Coded.{codes};
 

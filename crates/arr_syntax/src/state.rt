@@ -4,7 +4,7 @@ use crate::refusal::Place;
 use crate::stack::Stack;
 use crate::token::View;
 use crate::tree::{Code16, Cut, Expr, Statement, Type4, Word};
-use sqlite_items::Items;
+use sqlite_items::{Boxed, Items};
 
 /// Where a tree is wanted: as a value, or as a place whose elements are named.
 #[derive(Clone, Copy)]
@@ -22,7 +22,7 @@ pub enum Callee {
     /// The first argument of `minimum` or `maximum`.
     First(Code16),
     /// The second one, behind the first.
-    Second { code: Code16, left: Expr },
+    Second { code: Code16, left: Boxed<Expr> },
     View(View),
 }
 
@@ -30,15 +30,34 @@ pub enum Callee {
 #[derive(Drop)]
 pub enum Node {
     Negative,
-    Power { of: Expr },
-    Index { of: Expr },
+    Power {
+        of: Boxed<Expr>,
+    },
+    Index {
+        of: Boxed<Expr>,
+    },
     Range,
     Full,
-    Fold { code: Code16, of: Expr },
-    Absolute { of: Expr },
-    Cast { to: Type4, of: Expr },
-    Pair { code: Code16, left: Expr, right: Expr },
-    View { view: View, of: Expr },
+    Fold {
+        code: Code16,
+        of: Boxed<Expr>,
+    },
+    Absolute {
+        of: Boxed<Expr>,
+    },
+    Cast {
+        to: Type4,
+        of: Boxed<Expr>,
+    },
+    Pair {
+        code: Code16,
+        left: Boxed<Expr>,
+        right: Boxed<Expr>,
+    },
+    View {
+        view: View,
+        of: Boxed<Expr>,
+    },
 }
 
 /// The fields that were read so far.
@@ -93,7 +112,7 @@ pub enum Part {
 pub enum Head {
     Print,
     Bind { name: Word },
-    Assign { target: Expr, equals: Place },
+    Assign { target: Boxed<Expr>, equals: Place },
 }
 
 /// What is open around the tree that is being read.
@@ -104,15 +123,21 @@ pub enum Frame {
     /// The target of a statement.
     Target,
     Bracket,
-    Argument { mode: Mode, callee: Callee, at: Place },
+    Argument {
+        mode: Mode,
+        callee: Callee,
+        at: Place,
+    },
     /// The `~` before it.
-    Invert { at: Place },
+    Invert {
+        at: Place,
+    },
     /// The right side of a sign of this level.
     Operand {
         level: u8,
         code: Code16,
         at: Place,
-        left: Expr,
+        left: Boxed<Expr>,
     },
 }
 
@@ -122,13 +147,18 @@ pub enum State {
     /// At the beginning of a line.
     Start,
     /// Behind a name at the beginning of a statement.
-    Named { name: Word },
+    Named {
+        name: Word,
+    },
     /// Behind `del`.
     Delete,
     /// Behind a whole statement.
     Ended,
     /// A tree is wanted.
-    Want { mode: Mode, stack: Stack },
+    Want {
+        mode: Mode,
+        stack: Stack,
+    },
     /// Behind the word of a call.
     Call {
         mode: Mode,
@@ -139,7 +169,7 @@ pub enum State {
     /// A tree of this level stands here.
     Have {
         level: u8,
-        tree: Expr,
+        tree: Boxed<Expr>,
         stack: Stack,
     },
     /// Fields of a node are wanted: a part, and then the others.
@@ -162,7 +192,7 @@ pub enum Move {
     Stuck,
     On(State),
     /// It ends this statement.
-    Emit(Statement, State),
+    Emit(Boxed<Statement>, State),
 }
 
 /// What a token makes of a part.

@@ -1,4 +1,5 @@
-ghost use Rattle.std.specs.Prelude.{◌≡◌, ℕ, ◌+◌, ◌-◌, ◌^◌, ◌<◌, ◌≤◌, length, Some, None, List, Option, IfOk, IsTrue, false};
+ghost use Rattle.std.specs.Prelude.{◌≡◌, ◌∷◌, ℕ, ◌+◌, ◌-◌, ◌^◌, ◌<◌, ◌≤◌, length, Some, None, List, Option, IfOk, false};
+ghost use Rattle.arr_syntax.specs.Run.{is_end, behind};
 ghost use Rattle.arr_syntax.specs.Tokens.{digits, decimal, number_of, is_blank, is_letter, is_word_byte, word, find_word, statement_words, call_words, fold_words, type_words, reserved, word_of, sign_of_one, sign_with_equal, sign_doubled, sign_of_two, sign_piece, piece, comment, beyond, place_behind, items_from};
 
 use crate::lists::Name;
@@ -309,4 +310,35 @@ fn place_behind(at: Place, bytes: &[u8]) -> Place
         place = beyond(place, *b);
     }
     place
+}
+
+/// The bytes of a text that are still to be cut, and the place of the first of them.
+#[derive(Drop)]
+pub struct Text<'a> {
+    pub rest: &'a [u8],
+    pub at: Place,
+    ghost fits: { (at.line + length rest.now < 2 ^ 32) × (at.column + length rest.now < 2 ^ 32) },
+}
+
+impl Text<'_> {
+    /// The next token, which is the end where no byte is left.
+    pub fn next(&mut self, alloc: Global) -> Result<Item, AllocError>
+        ensures next { IfOk result (λ i. items_from 0 self.old.at self.old.rest.now ≡ i ∷ behind i (items_from 0 self.new.at self.new.rest.now)) }
+        ensures shorter { IfOk result (λ i. is_end i.token ≡ false → length self.new.rest.now < length self.old.rest.now) }
+    {
+        'pieces: while !self.rest.is_empty() {
+            let at = self.at;
+            let (token, size) = piece(alloc, self.rest)?;
+            let (front, behind) = self.rest.split_at(size);
+            self.at = place_behind(at, front);
+            self.rest = behind;
+            if let Some(token) = token {
+                return Ok(Item { token, at });
+            }
+        }
+        Ok(Item {
+            token: Token::End,
+            at: self.at,
+        })
+    }
 }
