@@ -1,0 +1,6 @@
+pub mod Grammar
+pub mod Machine
+pub mod Limits
+pub mod Run
+pub mod Refused
+pub mod Tokens

@@ -1,6 +1,7 @@
-ghost use Rattle.std.specs.Prelude.{◌≡◌};
+ghost use Rattle.std.specs.Prelude.{◌≡◌, [], ◌∷◌, ◌++◌, OnOk};
 
 use crate::tree::Cut;
+use std::alloc::AllocError;
 use std::marker::Model;
 
 /// The bytes of a name. Contracts see a name as the list of its bytes.
@@ -54,6 +55,14 @@ impl Slices {
         ensures { result ≡ list.items }
     {
         Slices { list }
+    }
+
+    /// Joins one more slice to the end. Where memory is wanting, an error.
+    pub fn push(&mut self, cut: Cut) -> Result<(), AllocError>
+        ensures { OnOk result (self.new ≡ self.old ++ cut ∷ []) }
+    {
+        self.list.push(cut)?;
+        Ok(())
     }
 
     /// The slices, in order.

@@ -1,0 +1,408 @@
+-- What one token makes of what is wanted, from the machine to the grammar.
+use Rattle.std.proofs.Common.{◌≡◌, ℕ, zero, suc, ◌<◌, ◌≤◌, List, [], ◌∷◌, ◌++◌, Option, Some, None, refl, sym, ap, subst, arith, Bool, true, false, cond, ◌&&◌, eqb, nat_le, nat_lt, ◌∙◌, ◌⊎◌, inl, inr}
+use Rattle.std.proofs.lemmas.Bool.Decides.{nat_tests}
+use Rattle.arr_syntax.specs.declared.refusal.Place.{Place}
+use Rattle.arr_syntax.specs.declared.token.Item.{Item}
+use Rattle.arr_syntax.specs.declared.token.Token.{Token}
+use Rattle.arr_syntax.specs.declared.token.Token.TheVariants as token
+use Rattle.arr_syntax.specs.declared.token.Sign.{Sign}
+use Rattle.arr_syntax.specs.declared.token.Sign.TheVariants as sign
+use Rattle.arr_syntax.specs.declared.token.Keyword.TheVariants as keyword
+use Rattle.arr_syntax.specs.declared.token.View.{View}
+use Rattle.arr_syntax.specs.declared.token.View.TheVariants.{Broadcast, Transpose, Reshape, Strided}
+use Rattle.arr_syntax.specs.declared.state.Mode.{Mode}
+use Rattle.arr_syntax.specs.declared.state.Mode.TheVariants as mode
+use Rattle.arr_syntax.specs.declared.state.Callee.{Callee}
+use Rattle.arr_syntax.specs.declared.state.Callee.TheVariants as callee
+use Rattle.arr_syntax.specs.declared.state.Node.{Node}
+use Rattle.arr_syntax.specs.declared.state.Node.TheVariants as node
+use Rattle.arr_syntax.specs.declared.state.Fields.{Fields}
+use Rattle.arr_syntax.specs.declared.state.Part.{Part}
+use Rattle.arr_syntax.specs.declared.state.Part.TheVariants as part
+use Rattle.arr_syntax.specs.declared.state.Head.{Head}
+use Rattle.arr_syntax.specs.declared.state.Head.TheVariants as head
+use Rattle.arr_syntax.specs.declared.state.Frame.{Frame}
+use Rattle.arr_syntax.specs.declared.state.Frame.TheVariants as frame
+use Rattle.arr_syntax.specs.declared.state.State.{State}
+use Rattle.arr_syntax.specs.declared.state.State.TheVariants as state
+use Rattle.arr_syntax.specs.declared.state.Move.{Move}
+use Rattle.arr_syntax.specs.declared.state.Move.TheVariants as move
+use Rattle.arr_syntax.specs.declared.state.Filled.{Filled}
+use Rattle.arr_syntax.specs.declared.state.Filled.TheVariants as filled
+use Rattle.arr_syntax.specs.declared.tree.Code16.{Code16}
+use Rattle.arr_syntax.specs.declared.tree.Code16.TheVariants as code
+use Rattle.arr_syntax.specs.declared.tree.Type4.{Type4}
+use Rattle.arr_syntax.specs.declared.tree.Cut.{Cut}
+use Rattle.arr_syntax.specs.declared.tree.Word.{Word}
+use Rattle.arr_syntax.specs.declared.tree.Expr.{Expr}
+use Rattle.arr_syntax.specs.declared.tree.Statement.{Statement}
+use Rattle.arr_syntax.specs.Grammar as grammar
+use Rattle.arr_syntax.specs.Grammar.{IsSign, IsKeyword, Rest, Level, Primary, Placed, ViewCall, Argument, Ends, Script, OneStatement, operator, comparison, index_at, name_of, word_at, unary_at, binary_at}
+use Rattle.arr_syntax.specs.Machine as machine
+use Rattle.arr_syntax.specs.Machine.{level, sign_level, rank, operate, goes, give, leaves, fits, step, again, wanted_by, wanted, fresh, fill, parts_of, level_of, built, take_part, onward, opened}
+use Rattle.arr_syntax.proofs.Completes.{IsEmpty, Fills, PartIn, NextPart, Climb, there, up, Goes, ValueIn, NodeIn, Argued, Leaves, After, Given, Tree, Wants, Completes, Next, Formed, Takes, WellFormed}
+use Rattle.arr_syntax.proofs.Filling.{item, fill_back}
+use Rattle.arr_syntax.proofs.Forward.{climb_most, operator_within, again_same, again_most}
+
+-- climbing
+
+pub le_cases : (n k : ℕ) → n ≤ suc k → (n ≤ k) ⊎ (n ≡ suc k)
+le_cases n k h = elim (nat_le n k) as (λ v. nat_le n k ≡ v → (n ≤ k) ⊎ (n ≡ suc k)) [
+  | true ↦ λ e. inl (grind (arith, nat_tests))
+  | false ↦ λ e. inr (let l : k < n = grind (arith, nat_tests) in omega arith)
+] refl
+
+-- nothing need follow at the levels below
+pub lower : (k n m : ℕ) (t u : Expr) (a b : List Item) → n ≤ k → Climb k m t a u b → Climb n m t a u b
+lower zero n m t u a b h c = let e : 0 ≡ n = omega arith in subst (λ (v : ℕ). Climb v m t a u b) e c
+lower (suc k) n m t u a b h c = elim (le_cases n k h) [
+  | inl l ↦ lower k n m t u a b l (up grammar.stop c)
+  | inr e ↦ subst (λ (v : ℕ). Climb v m t a u b) (sym e) c
+]
+
+pub stops : (n m : ℕ) (t : Expr) (a : List Item) → n ≤ m → Climb n m t a t a
+stops n m t a h = lower m n m t t a a h there
+
+record Split (n m : ℕ) (t : Expr) (a : List Item) (u : Expr) (b : List Item) : Type 0 where
+  tree : Expr
+  tokens : List Item
+  rest : Rest n t a tree tokens
+  climb : Climb (suc n) m tree tokens u b
+
+split : (n m : ℕ) (t u : Expr) (a b : List Item) → n < m → Climb n m t a u b → Split n m t a u b
+split n m t u a b h there = absurd (omega arith)
+split n m t u a b h (up r c) = record { tree = _; tokens = _; rest = r; climb = c }
+
+pub climbed : (n m : ℕ) (t u : Expr) (a b c : List Item) → Level n a t b → Climb n m t b u c → Level m a u c
+climbed n m t u a b c l there = l
+climbed n m t u a b c l (up r k) = climbed (suc n) m _ u a _ c (grammar.more l r) k
+
+climb_end : (n m : ℕ) (t u v : Expr) (a b c : List Item) → n ≡ m → Rest zero v c t a → Climb n m t a u b → Rest zero v c u b
+climb_end n m t u v a b c e r there = r
+climb_end n m t u v a b c e r (up q k) = absurd (let h = climb_most _ _ _ _ _ _ k in omega (arith, h))
+
+rest_as : {n k : ℕ} {t u : Expr} {a b : List Item} → n ≡ k → Rest n t a u b → Rest k t a u b
+rest_as {t = t} {u = u} {a = a} {b = b} e r = subst (λ (v : ℕ). Rest v t a u b) e r
+
+-- what follows at level 0 alone
+climb_rest : (n m : ℕ) (t u : Expr) (a b : List Item) → n ≡ 0 → m ≡ 1 → Climb n m t a u b → Rest zero t a u b
+climb_rest n m t u a b e f there = absurd (omega arith)
+climb_rest n m t u a b e f (up r k) = climb_end (suc n) m _ u t _ b a (omega arith) (rest_as e r) k
+
+-- parts
+
+resume_back : (n : Node) (at : Place) (ps : List Part) (f : Fields) (s : List Frame) (ts : List Item) (r : List Statement) →
+    Completes (machine.resume n at ps f s) ts r → Fills ps f ts (λ g b. Given (level_of n) s (built n at g) b r)
+resume_back n at [] f s ts r k = k
+resume_back n at (p ∷ ps) f s ts r k = k
+
+onward_back : (n : Node) (at : Place) (ps : List Part) (s : List Frame) (x : Filled) (ts : List Item) (r : List Statement) →
+    Next (onward n at ps s x) ts r → NextPart x ts (λ g b. Fills ps g b (λ h c. Given (level_of n) s (built n at h) c r))
+onward_back n at ps s filled.Stuck ts r k = absurd k
+onward_back n at ps s (filled.Over f) ts r k = resume_back n at ps f s ts r k
+onward_back n at ps s (filled.Turns p f) ts r k = k
+
+take_back : (n : Node) (at : Place) (p : Part) (ps : List Part) (f : Fields) (s : List Frame) (i : Item) (ts : List Item) (r : List Statement) →
+    Next (take_part n at (p ∷ ps) f s i) ts r → Fills (p ∷ ps) f (i ∷ ts) (λ g b. Given (level_of n) s (built n at g) b r)
+take_back n at p ps f s i ts r k =
+    fill_back (λ g b. Fills ps g b (λ h c. Given (level_of n) s (built n at h) c r)) p i.token i.at f ts (onward_back n at ps s (fill p i.token i.at f) ts r k)
+
+-- how a tree goes on
+
+module _ (at : Place) (s : List Frame) (l : Expr) (r : List Statement) where
+  operate_back : (x : Sign) (o : Option (ℕ × Code16)) (k : Option Code16) (ts : List Item) → operator x ≡ o → comparison x ≡ k → rank o k < wanted s →
+      Next (operate o k at s l) ts r → Given (rank o k) s l (item (token.Sign x) at ∷ ts) r
+  operate_back x (Some (n, c)) k ts e g h (t, b, right, (u, d, climb, after)) =
+      let w = operator_within x n c e in
+      let q = split n (wanted s) _ u b d h (subst (λ (v : ℕ). Climb v (wanted s) (binary_at at c l t) b u d) (again_same n w.1) climb) in
+      (u, d, up (grammar.operation refl e right q.rest) q.climb, after)
+  operate_back x None (Some c) ts e g h (t, b, right, (u, d, climb, after)) = (u, d, up (grammar.compared refl refl g right) climb, after)
+  operate_back x None None ts e g h k = absurd k
+
+  power_back : (ts : List Item) → Completes (opened (node.Power l) at s) ts r → Given 1 s l (item (token.Sign sign.Power) at ∷ ts) r
+  power_back [] k = absurd k
+  power_back (j ∷ ts) (n, e, (u, d, climb, after)) = (u, d, up (grammar.power refl e) climb, after)
+
+  index_back : (ts : List Item) → 0 < wanted s → Completes (opened (node.Index l) at s) ts r → Given 0 s l (item (token.Sign sign.OpenIndex) at ∷ ts) r
+  index_back ts h (xs, b, list, (u, d, climb, after)) =
+      let q = split 0 (wanted s) _ u b d h climb in
+      (u, d, up (grammar.index (grammar.bracketed refl list) q.rest) q.climb, after)
+
+  sign_back : (x : Sign) (ts : List Item) → sign_level x < wanted s → Next (machine.sign_goes x at s l) ts r → Given (sign_level x) s l (item (token.Sign x) at ∷ ts) r
+  sign_back sign.OpenIndex ts h k = index_back ts h k
+  sign_back sign.Power ts h k = power_back ts k
+  sign_back x ts h k = operate_back x (operator x) (comparison x) ts refl refl h k
+
+  goes_back : (t : Token) (ts : List Item) → level t < wanted s → Next (goes t at s l) ts r → Given (level t) s l (item t at ∷ ts) r
+  goes_back (token.Sign x) ts h k = sign_back x ts h k
+  goes_back _ ts h k = absurd k
+
+both_yes : (a b : Bool) → (a && b) ≡ true → (a ≡ true) × (b ≡ true)
+both_yes true true e = (refl, refl)
+both_yes true false e = cc
+both_yes false b e = cc
+
+-- when a frame has its tree
+
+module _ (r : List Statement) where
+  ends_back : (t : Token) (at : Place) (st : Statement) (ts : List Item) → Next (machine.ends t st) ts r → (ss : List Statement) × Ends (item t at ∷ ts) ss × (r ≡ st ∷ ss)
+  ends_back token.Line at st ts (ss, k, q) = (ss, grammar.next refl k, q)
+  ends_back token.End at st [] (ss, (e, z), q) = ([], grammar.finish refl, q ∙ ap (λ (v : List Statement). st ∷ v) z)
+  ends_back token.End at st (i ∷ ts) (ss, (e, z), q) = absurd e
+  ends_back _ at st ts k = absurd k
+
+  assigns_back : (t : Token) (at : Place) (s : List Frame) (u : Expr) (ts : List Item) → Next (machine.assigns t at u) ts r → After (frame.Target ∷ s) u (item t at ∷ ts) r
+  assigns_back (token.Sign sign.Assign) at s u ts k = (refl, k)
+  assigns_back _ at s u ts k = absurd k
+
+  closes_back : (t : Token) (at : Place) (s : List Frame) (u : Expr) (ts : List Item) → Next (machine.closes t s u) ts r → After (frame.Bracket ∷ s) u (item t at ∷ ts) r
+  closes_back (token.Sign sign.Close) at s u ts k = (refl, k)
+  closes_back _ at s u ts k = absurd k
+
+  seconds_back : (t : Token) (i_at : Place) (m : Mode) (c : Code16) (at : Place) (s : List Frame) (u : Expr) (ts : List Item) →
+      Next (machine.seconds t c at u s) ts r → After (frame.Argument m (callee.First c) at ∷ s) u (item t i_at ∷ ts) r
+  seconds_back (token.Sign sign.Comma) i_at m c at s u ts k = (refl, k)
+  seconds_back _ i_at m c at s u ts k = absurd k
+
+  argued_back : (m : Mode) (c : Callee) (at : Place) (s : List Frame) (t : Expr) (i : Item) (ts : List Item) →
+      Next (machine.argued c at s t i) ts r → After (frame.Argument m c at ∷ s) t (i ∷ ts) r
+  argued_back m (callee.Fold c) at s t i ts k = take_back (node.Fold c t) at part.Comma (part.Number ∷ part.Close ∷ []) (fresh at) s i ts r k
+  argued_back m callee.Absolute at s t i ts k = take_back (node.Absolute t) at part.Close [] (fresh at) s i ts r k
+  argued_back m (callee.Cast to) at s t i ts k = take_back (node.Cast to t) at part.Close [] (fresh at) s i ts r k
+  argued_back m (callee.First c) at s t i ts k = seconds_back i.token i.at m c at s t ts k
+  argued_back m (callee.Second c l) at s t i ts k = take_back (node.Pair c l t) at part.Close [] (fresh at) s i ts r k
+  argued_back m (callee.View Broadcast) at s t i ts k = take_back (node.View Broadcast t) at part.Comma (part.Shape ∷ part.Close ∷ []) (fresh at) s i ts r k
+  argued_back m (callee.View Transpose) at s t i ts k = take_back (node.View Transpose t) at part.Close [] (fresh at) s i ts r k
+  argued_back m (callee.View Reshape) at s t i ts k = take_back (node.View Reshape t) at part.Comma (part.Shape ∷ part.Close ∷ []) (fresh at) s i ts r k
+  argued_back m (callee.View Strided) at s t i ts k =
+      take_back (node.View Strided t) at part.Comma (part.Number ∷ part.Comma ∷ part.Shape ∷ part.Comma ∷ part.Strides ∷ part.Close ∷ []) (fresh at) s i ts r k
+
+  choose_back : (f : Frame) (s : List Frame) (n : ℕ) (t : Expr) (i : Item) (ts : List Item) → n ≤ wanted_by f → Next (give (f ∷ s) n t i) ts r →
+      (Next (leaves f s t i (λ m u. give s m u i)) ts r → After (f ∷ s) t (i ∷ ts) r) → Given n (f ∷ s) t (i ∷ ts) r
+  choose_back f s n t i ts h k over =
+      elim (fits n i.token f) as (λ v. fits n i.token f ≡ v → Next (cond v (goes i.token i.at (f ∷ s) t) (leaves f s t i (λ m u. give s m u i))) ts r → Given n (f ∷ s) t (i ∷ ts) r) [
+        | true ↦ λ e w. goes_on e w
+        | false ↦ λ e w. (t, i ∷ ts, stops n (wanted_by f) t (i ∷ ts) h, over w)
+      ] refl k
+    where
+      goes_on : fits n i.token f ≡ true → Next (goes i.token i.at (f ∷ s) t) ts r → Given n (f ∷ s) t (i ∷ ts) r
+      goes_on e w =
+          let b = both_yes (nat_le n (level i.token)) (nat_lt (level i.token) (wanted_by f)) e in
+          let x : nat_le n (level i.token) ≡ true = b.0 in
+          let y : nat_lt (level i.token) (wanted_by f) ≡ true = b.1 in
+          let le : n ≤ level i.token = grind (arith, nat_tests) in
+          let lt : level i.token < wanted_by f = grind (arith, nat_tests) in
+          let g = goes_back i.at (f ∷ s) t r i.token ts lt w in
+          (g.0, g.1, lower (level i.token) n (wanted_by f) t g.0 (i ∷ ts) g.1 le g.2, g.3)
+
+  pub give_back : (s : List Frame) (n : ℕ) (t : Expr) (i : Item) (ts : List Item) → Formed s → n ≤ wanted s → Next (give s n t i) ts r → Given n s t (i ∷ ts) r
+  give_back [] n t i ts w h k = absurd k
+  give_back (frame.Value v ∷ s) n t i ts w h k = choose_back (frame.Value v) s n t i ts h k (λ x. ends_back i.token i.at (machine.stated v t) ts x)
+  give_back (frame.Target ∷ s) n t i ts w h k = choose_back frame.Target s n t i ts h k (λ x. assigns_back i.token i.at s t ts x)
+  give_back (frame.Bracket ∷ s) n t i ts w h k = choose_back frame.Bracket s n t i ts h k (λ x. closes_back i.token i.at s t ts x)
+  give_back (frame.Argument m c at ∷ s) n t i ts w h k = choose_back (frame.Argument m c at) s n t i ts h k (λ x. argued_back m c at s t i ts x)
+  give_back (frame.Invert at ∷ s) n t i ts w h k = choose_back (frame.Invert at) s n t i ts h k (λ x. give_back s 2 (unary_at at code.Invert t) i ts w.1 w.0 x)
+  give_back (frame.Operand m c at l ∷ s) n t i ts w h k =
+      choose_back (frame.Operand m c at l) s n t i ts h k (λ x. give_back s (again m) (binary_at at c l t) i ts w.3 (again_most m (wanted s) w.0) x)
+
+-- the beginning of a tree
+
+module _ (at : Place) (s : List Frame) (r : List Statement) where
+  primary_back : (t : Expr) (a b : List Item) → Primary a t b → Given 0 s t b r → Wants mode.Value s a r
+  primary_back t a b p (u, c, climb, g) = (u, c, climbed 0 (wanted s) t u a b c (grammar.primary p) climb, g)
+
+  abbrev here : Token → List Item → List Item
+  here t ts = item t at ∷ ts
+
+  argument_out : (m : Mode) (c : Callee) (t : Expr) (a b : List Item) → Tree m (wanted_by (frame.Argument m c at)) a t b → Argument m a t b
+  argument_out mode.Value c t a b l = grammar.value l
+  argument_out mode.Place c t a b l = grammar.place l
+
+  abbrev Viewed : Mode → View → List Item → Type 0
+  Viewed m v ts = (t : Expr) × (b : List Item) × ViewCall m (here (token.Keyword (keyword.View v)) ts) t b × Given 0 s t b r
+
+  broadcast_back : (m : Mode) (ts : List Item) → Completes (state.Call m (callee.View Broadcast) at s) ts r → Viewed m Broadcast ts
+  broadcast_back m [] k = absurd k
+  broadcast_back m (j ∷ a) (o, (t, [], l, k)) = absurd k
+  broadcast_back m (j ∷ a) (o, (t, i ∷ b, l, (comma, (sat, xs, [], shape, k)))) = absurd k
+  broadcast_back m (j ∷ a) (o, (t, i ∷ b, l, (comma, (sat, xs, p ∷ c, shape, (close, g))))) =
+      (_, c, grammar.broadcast refl o (argument_out m (callee.View Broadcast) t a (i ∷ b) l) comma shape close, g)
+
+  reshape_back : (m : Mode) (ts : List Item) → Completes (state.Call m (callee.View Reshape) at s) ts r → Viewed m Reshape ts
+  reshape_back m [] k = absurd k
+  reshape_back m (j ∷ a) (o, (t, [], l, k)) = absurd k
+  reshape_back m (j ∷ a) (o, (t, i ∷ b, l, (comma, (sat, xs, [], shape, k)))) = absurd k
+  reshape_back m (j ∷ a) (o, (t, i ∷ b, l, (comma, (sat, xs, p ∷ c, shape, (close, g))))) =
+      (_, c, grammar.reshape refl o (argument_out m (callee.View Reshape) t a (i ∷ b) l) comma shape close, g)
+
+  transpose_back : (m : Mode) (ts : List Item) → Completes (state.Call m (callee.View Transpose) at s) ts r → Viewed m Transpose ts
+  transpose_back m [] k = absurd k
+  transpose_back m (j ∷ a) (o, (t, [], l, k)) = absurd k
+  transpose_back m (j ∷ a) (o, (t, i ∷ b, l, (close, g))) = (_, b, grammar.transpose refl o (argument_out m (callee.View Transpose) t a (i ∷ b) l) close, g)
+
+  strided_back : (m : Mode) (ts : List Item) → Completes (state.Call m (callee.View Strided) at s) ts r → Viewed m Strided ts
+  strided_back m [] k = absurd k
+  strided_back m (j ∷ a) (o, (t, [], l, k)) = absurd k
+  strided_back m (j ∷ a) (o, (t, i ∷ [], l, (comma, k))) = absurd k
+  strided_back m (j ∷ a) (o, (t, i ∷ p ∷ [], l, (comma, (n, number, k)))) = absurd k
+  strided_back m (j ∷ a) (o, (t, i ∷ p ∷ q ∷ b, l, (comma, (n, number, (second, (sat, xs, [], shape, k)))))) = absurd k
+  strided_back m (j ∷ a) (o, (t, i ∷ p ∷ q ∷ b, l, (comma, (n, number, (second, (sat, xs, v ∷ c, shape, (third, (zat, zs, [], strides, k)))))))) = absurd k
+  strided_back m (j ∷ a) (o, (t, i ∷ p ∷ q ∷ b, l, (comma, (n, number, (second, (sat, xs, v ∷ c, shape, (third, (zat, zs, w ∷ d, strides, (close, g))))))))) =
+      (_, d, grammar.strided refl o (argument_out m (callee.View Strided) t a (i ∷ p ∷ q ∷ b) l) comma number second shape third strides close, g)
+
+  viewed_back : (m : Mode) (v : View) (ts : List Item) → Completes (state.Call m (callee.View v) at s) ts r → Viewed m v ts
+  viewed_back m Broadcast ts k = broadcast_back m ts k
+  viewed_back m Transpose ts k = transpose_back m ts k
+  viewed_back m Reshape ts k = reshape_back m ts k
+  viewed_back m Strided ts k = strided_back m ts k
+
+  view_back : (v : View) (ts : List Item) → Completes (state.Call mode.Value (callee.View v) at s) ts r → Wants mode.Value s (here (token.Keyword (keyword.View v)) ts) r
+  view_back v ts k = let x = viewed_back mode.Value v ts k in primary_back x.0 (here (token.Keyword (keyword.View v)) ts) x.1 (grammar.viewed x.2) x.3
+
+  negative_back : (ts : List Item) → Completes (opened node.Negative at s) ts r → Wants mode.Value s (here (token.Sign sign.Minus) ts) r
+  negative_back [] k = absurd k
+  negative_back (j ∷ ts) (n, e, g) = primary_back _ (here (token.Sign sign.Minus) (j ∷ ts)) ts (grammar.literal (grammar.negative refl e)) g
+
+  bracket_back : (ts : List Item) → Wants mode.Value (frame.Bracket ∷ s) ts r → Wants mode.Value s (here (token.Sign sign.Open) ts) r
+  bracket_back ts (t, [], l, k) = absurd k
+  bracket_back ts (t, j ∷ b, l, (close, g)) = primary_back t (here (token.Sign sign.Open) ts) b (grammar.bracket refl l close) g
+
+  invert_back : (ts : List Item) → Wants mode.Value (frame.Invert at ∷ s) ts r → Wants mode.Value s (here (token.Sign sign.Not) ts) r
+  invert_back ts (t, b, l, (u, c, climb, g)) = (u, c, climbed 2 (wanted s) _ u (here (token.Sign sign.Not) ts) b c (grammar.invert refl l) climb, g)
+
+  range_back : (ts : List Item) → Completes (opened node.Range at s) ts r → Wants mode.Value s (here (token.Keyword keyword.Range) ts) r
+  range_back [] k = absurd k
+  range_back (j ∷ []) (o, k) = absurd k
+  range_back (j ∷ l ∷ []) (o, (n, number, k)) = absurd k
+  range_back (j ∷ l ∷ p ∷ a) (o, (n, number, inl (close, g))) = primary_back _ _ a (grammar.range refl o number grammar.no_type close) g
+  range_back (j ∷ l ∷ p ∷ []) (o, (n, number, inr (comma, k))) = absurd k
+  range_back (j ∷ l ∷ p ∷ q ∷ []) (o, (n, number, inr (comma, (to, e, k)))) = absurd k
+  range_back (j ∷ l ∷ p ∷ q ∷ v ∷ a) (o, (n, number, inr (comma, (to, e, (close, g))))) = primary_back _ _ a (grammar.range refl o number (grammar.one_type comma e) close) g
+
+  full_back : (ts : List Item) → Completes (opened node.Full at s) ts r → Wants mode.Value s (here (token.Keyword keyword.Full) ts) r
+  full_back [] k = absurd k
+  full_back (j ∷ a) (o, (sat, xs, [], shape, k)) = absurd k
+  full_back (j ∷ a) (o, (sat, xs, p ∷ b, shape, (comma, (lat, m, n, [], literal, k)))) = absurd k
+  full_back (j ∷ a) (o, (sat, xs, p ∷ b, shape, (comma, (lat, m, n, q ∷ [], literal, (second, k))))) = absurd k
+  full_back (j ∷ a) (o, (sat, xs, p ∷ b, shape, (comma, (lat, m, n, q ∷ v ∷ [], literal, (second, (to, e, k)))))) = absurd k
+  full_back (j ∷ a) (o, (sat, xs, p ∷ b, shape, (comma, (lat, m, n, q ∷ v ∷ w ∷ c, literal, (second, (to, e, (close, g))))))) =
+      primary_back _ _ c (grammar.full refl o shape comma literal second e close) g
+
+  fold_back : (c : Code16) (ts : List Item) → Completes (state.Call mode.Value (callee.Fold c) at s) ts r → Wants mode.Value s (here (token.Keyword (keyword.Fold c)) ts) r
+  fold_back c [] k = absurd k
+  fold_back c (j ∷ a) (o, (t, [], l, k)) = absurd k
+  fold_back c (j ∷ a) (o, (t, i ∷ [], l, (comma, k))) = absurd k
+  fold_back c (j ∷ a) (o, (t, i ∷ p ∷ [], l, (comma, (n, number, k)))) = absurd k
+  fold_back c (j ∷ a) (o, (t, i ∷ p ∷ q ∷ b, l, (comma, (n, number, (close, g))))) = primary_back _ _ b (grammar.fold refl o l comma number close) g
+
+  absolute_back : (ts : List Item) → Completes (state.Call mode.Value callee.Absolute at s) ts r → Wants mode.Value s (here (token.Keyword keyword.Absolute) ts) r
+  absolute_back [] k = absurd k
+  absolute_back (j ∷ a) (o, (t, [], l, k)) = absurd k
+  absolute_back (j ∷ a) (o, (t, i ∷ b, l, (close, g))) = primary_back _ _ b (grammar.absolute refl o l close) g
+
+  cast_back : (to : Type4) (ts : List Item) → Completes (state.Call mode.Value (callee.Cast to) at s) ts r → Wants mode.Value s (here (token.Keyword (keyword.Type to)) ts) r
+  cast_back to [] k = absurd k
+  cast_back to (j ∷ a) (o, (t, [], l, k)) = absurd k
+  cast_back to (j ∷ a) (o, (t, i ∷ b, l, (close, g))) = primary_back _ _ b (grammar.cast refl o l close) g
+
+  pair_back : (c : Code16) (ts : List Item) → Completes (state.Call mode.Value (callee.First c) at s) ts r → Wants mode.Value s (here (token.Keyword (keyword.Pair c)) ts) r
+  pair_back c [] k = absurd k
+  pair_back c (j ∷ a) (o, (t, [], l, k)) = absurd k
+  pair_back c (j ∷ a) (o, (t, i ∷ b, l, (comma, (u, [], q, k)))) = absurd k
+  pair_back c (j ∷ a) (o, (t, i ∷ b, l, (comma, (u, p ∷ d, q, (close, g))))) = primary_back _ _ d (grammar.pair refl o l comma q close) g
+
+  begins_value_back : (t : Token) (ts : List Item) → Next (machine.begins_value t at s) ts r → Wants mode.Value s (here t ts) r
+  begins_value_back (token.Number n) ts k = primary_back _ _ ts (grammar.literal (grammar.plain refl)) k
+  begins_value_back (token.Name x) ts k = primary_back _ _ ts (grammar.name refl) k
+  begins_value_back (token.Sign sign.Minus) ts k = negative_back ts k
+  begins_value_back (token.Sign sign.Open) ts k = bracket_back ts k
+  begins_value_back (token.Sign sign.Not) ts k = invert_back ts k
+  begins_value_back (token.Keyword keyword.Range) ts k = range_back ts k
+  begins_value_back (token.Keyword keyword.Full) ts k = full_back ts k
+  begins_value_back (token.Keyword (keyword.Fold c)) ts k = fold_back c ts k
+  begins_value_back (token.Keyword keyword.Absolute) ts k = absolute_back ts k
+  begins_value_back (token.Keyword (keyword.Pair c)) ts k = pair_back c ts k
+  begins_value_back (token.Keyword (keyword.Type to)) ts k = cast_back to ts k
+  begins_value_back (token.Keyword (keyword.View v)) ts k = view_back v ts k
+  begins_value_back _ ts k = absurd k
+
+  begins_place_back : (t : Token) (ts : List Item) → wanted s ≡ 1 → Next (machine.begins_place t at s) ts r → Wants mode.Place s (here t ts) r
+  begins_place_back (token.Name x) ts f (u, b, climb, g) = (u, b, grammar.placed_name refl (climb_rest 0 (wanted s) _ u ts b refl f climb), g)
+  begins_place_back (token.Keyword (keyword.View v)) ts f k = placed (viewed_back mode.Place v ts k)
+    where
+      placed : Viewed mode.Place v ts → Wants mode.Place s (here (token.Keyword (keyword.View v)) ts) r
+      placed (t, b, call, (u, c, climb, g)) = (u, c, grammar.placed_view call (climb_rest 0 (wanted s) t u b c refl f climb), g)
+  begins_place_back _ ts f k = absurd k
+
+  begins_back : (m : Mode) (t : Token) (ts : List Item) → Takes m s → Next (machine.begins m t at s) ts r → Wants m s (here t ts) r
+  begins_back mode.Value t ts f k = begins_value_back t ts k
+  begins_back mode.Place t ts f k = begins_place_back t ts f k
+
+-- statements
+
+module _ (r : List Statement) where
+  script_is : (a b : List Item) (st : Statement) (ss : List Statement) → OneStatement a st b → Ends b ss → r ≡ st ∷ ss → Script a r
+  script_is a b st ss one ends q = subst (λ (v : List Statement). Script a v) (sym q) (grammar.statement one ends)
+
+  target_back : (at : Place) (v : View) (ts : List Item) → Completes (state.Call mode.Place (callee.View v) at (frame.Target ∷ [])) ts r → Script (item (token.Keyword (keyword.View v)) at ∷ ts) r
+  target_back at v ts k = assigned (viewed_back at (frame.Target ∷ []) r mode.Place v ts k)
+    where
+      assigned : Viewed at (frame.Target ∷ []) r mode.Place v ts → Script (item (token.Keyword (keyword.View v)) at ∷ ts) r
+      assigned (t, b, call, (u, [], climb, g)) = absurd g
+      assigned (t, b, call, (u, j ∷ c, climb, (a, (w, e, l, (ss, ends, q))))) =
+          script_is _ e _ ss (grammar.assign (grammar.target_view call (climb_rest 0 1 t u b (j ∷ c) refl refl climb)) a l) ends q
+
+  deletes_back : (at : Place) (ts : List Item) → Completes state.Delete ts r → Script (item (token.Keyword keyword.Del) at ∷ ts) r
+  deletes_back at [] k = absurd k
+  deletes_back at (j ∷ b) (x, e, (ss, ends, q)) = script_is _ b _ ss (grammar.delete refl e) ends q
+
+  name_back : (at : Place) (x : List ℕ) (ts : List Item) → Completes (state.Named (word_at at x)) ts r → Script (item (token.Name x) at ∷ ts) r
+  name_back at x [] (inl k) = absurd k
+  name_back at x (j ∷ b) (inl (a, (t, d, l, (ss, ends, q)))) = script_is _ d _ ss (grammar.bind refl a l) ends q
+  name_back at x ts (inr (iat, cuts, b, index, (u, [], climb, k))) = absurd k
+  name_back at x ts (inr (iat, cuts, b, index, (u, j ∷ c, climb, (a, (w, e, l, (ss, ends, q)))))) =
+      script_is _ e _ ss (grammar.assign (grammar.target_name refl index (climb_rest 0 1 _ u b (j ∷ c) refl refl climb)) a l) ends q
+
+  finish_back : (at : Place) (ts : List Item) → IsEmpty ts → r ≡ [] → Ends (item token.End at ∷ ts) r
+  finish_back at [] e q = subst (λ (v : List Statement). Ends (item token.End at ∷ []) v) (sym q) (grammar.finish refl)
+  finish_back at (i ∷ ts) e q = absurd e
+
+  starts_back : (t : Token) (at : Place) (ts : List Item) → Next (machine.starts t at) ts r → Script (item t at ∷ ts) r
+  starts_back (token.Keyword keyword.Print) at ts (t, b, l, (ss, ends, q)) = script_is _ b _ ss (grammar.print refl l) ends q
+  starts_back (token.Keyword keyword.Del) at ts k = deletes_back at ts k
+  starts_back (token.Keyword keyword.Flush) at ts (ss, ends, q) = script_is _ ts _ ss (grammar.flush refl) ends q
+  starts_back (token.Keyword (keyword.View v)) at ts k = target_back at v ts k
+  starts_back (token.Name x) at ts k = name_back at x ts k
+  starts_back token.Line at ts k = grammar.blank (grammar.next refl k)
+  starts_back token.End at ts (e, q) = grammar.blank (finish_back at ts e q)
+  starts_back _ at ts k = absurd k
+
+  named_back : (t : Token) (at : Place) (w : Word) (ts : List Item) → Next (machine.named t at w) ts r → Completes (state.Named w) (item t at ∷ ts) r
+  named_back (token.Sign sign.Assign) at w ts k = inl (refl, k)
+  named_back (token.Sign sign.OpenIndex) at w ts (xs, b, list, g) = inr (at, xs, b, grammar.bracketed refl list, g)
+  named_back _ at w ts k = absurd k
+
+  delete_back : (t : Token) (at : Place) (ts : List Item) → Next (machine.deletes t at) ts r → Completes state.Delete (item t at ∷ ts) r
+  delete_back (token.Name x) at ts (ss, ends, q) = (x, refl, (ss, ends, q))
+  delete_back _ at ts k = absurd k
+
+  ended_back : (t : Token) (at : Place) (ts : List Item) → Next (machine.ended t) ts r → Ends (item t at ∷ ts) r
+  ended_back token.Line at ts k = grammar.next refl k
+  ended_back token.End at ts (e, q) = finish_back at ts e q
+  ended_back _ at ts k = absurd k
+
+  calls_back : (t : Token) (i_at : Place) (m : Mode) (c : Callee) (at : Place) (s : List Frame) (ts : List Item) →
+      Next (machine.calls t m c at s) ts r → Completes (state.Call m c at s) (item t i_at ∷ ts) r
+  calls_back (token.Sign sign.Open) i_at m c at s ts k = (refl, k)
+  calls_back _ i_at m c at s ts k = absurd k
+
+  pub backward : (st : State) (i : Item) (ts : List Item) → WellFormed st → Next (step st i) ts r → Completes st (i ∷ ts) r
+  backward state.Start i ts f k = starts_back i.token i.at ts k
+  backward (state.Named w) i ts f k = named_back i.token i.at w ts k
+  backward state.Delete i ts f k = delete_back i.token i.at ts k
+  backward state.Ended i ts f k = ended_back i.token i.at ts k
+  backward (state.Want m s) i ts f k = begins_back i.at s r m i.token ts f.0 k
+  backward (state.Call m c at s) i ts f k = calls_back i.token i.at m c at s ts k
+  backward (state.Have n t s) i ts f k = give_back r s n t i ts f.1 f.0 k
+  backward (state.Fill n at p ps g s) i ts f k = take_back n at p ps g s i ts r k
+  backward state.Finished i ts f k = absurd k

@@ -1,0 +1,63 @@
+ghost use Rattle.std.specs.Prelude.{◌≡◌, [], ◌≤◌, length, Some, None, Ok, List, IfOk, IfErr, MatchResult};
+ghost use Rattle.arr_syntax.specs.declared.refusal.Refusal.{Refusal};
+ghost use Rattle.arr_syntax.specs.declared.tree.Statement.{Statement};
+ghost use Rattle.arr_syntax.specs.Refused.{IsRefused, IsScript, IfRefused};
+ghost use Rattle.arr_syntax.specs.Run.{run, Refuses};
+ghost use Rattle.arr_syntax.specs.Tokens.{tokens};
+
+use crate::reader::{Reader, is_end};
+use crate::refusal::{ParseFault, Place};
+use crate::state::State;
+use crate::text::Text;
+use crate::tree::{Script, Statement};
+use sqlite_items::Items;
+use std::alloc::Global;
+
+/// The statements of a text, token by token.
+fn statements(alloc: Global, bytes: &[u8]) -> Result<Items<Statement>, ParseFault>
+    requires { length bytes.now ≤ 1048576 }
+    ensures { MatchResult result (λ ss. run 0 0 [] State.Start (tokens bytes.now) ≡ Ok (Some ss)) (λ e. Refuses e (run 0 0 [] State.Start (tokens bytes.now))) }
+{
+    let mut text = Text {
+        rest: bytes,
+        at: Place { line: 1, column: 1 },
+    };
+    let mut reader = Reader::new(alloc);
+    'tokens: loop {
+        let Ok(item) = text.next(alloc) else {
+            return Err(ParseFault::NoMemory);
+        };
+        let is_last = is_end(&item.token);
+        reader = reader.read(item)?;
+        if is_last {
+            return Ok(reader.statements);
+        }
+    }
+}
+
+/// The statements of a text, or its refusal.
+fn read(alloc: Global, bytes: &[u8]) -> Result<Items<Statement>, ParseFault>
+    requires { length bytes.now ≤ 1048576 }
+    ensures { MatchResult result (IsScript (tokens bytes.now)) (λ e. IfRefused e (IsRefused (tokens bytes.now))) }
+{
+    statements(alloc, bytes)
+}
+
+/// The script that a text of bytes spells.
+///
+/// The text is read token by token; its grammar, its tokens and the refusals are in docs/LANGUAGE.md. `Refused` comes
+/// exactly where a token of the text has a fault; it has the place of the first such token, and of the faults that fit
+/// that token the one that stands first in `Kind`. `NoMemory` comes where memory is wanting. The text has at most
+/// 1,048,576 bytes.
+pub fn parse(alloc: Global, bytes: &[u8]) -> Result<Script, ParseFault>
+    requires { length bytes.now ≤ 1048576 }
+    ensures found { IfOk result (λ v. IsScript (tokens bytes.now) v.statements) }
+    ensures fault { IfErr result (λ e. IfRefused e (IsRefused (tokens bytes.now))) }
+    ensures script { (ss : List Statement) → IsScript (tokens bytes.now) ss → MatchResult result (λ v. v.statements ≡ ss) (λ e. e ≡ ParseFault.NoMemory) }
+    ensures refused { (r : Refusal) → IsRefused (tokens bytes.now) r → MatchResult result (λ v. ⊥) (λ e. IfRefused e (λ q. q ≡ r)) }
+{
+    match read(alloc, bytes) {
+        Ok(statements) => Ok(Script { statements }),
+        Err(fault) => Err(fault),
+    }
+}

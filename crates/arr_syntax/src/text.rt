@@ -1,0 +1,344 @@
+ghost use Rattle.std.specs.Prelude.{◌≡◌, ◌∷◌, ℕ, ◌+◌, ◌-◌, ◌^◌, ◌<◌, ◌≤◌, length, Some, None, List, Option, IfOk, false};
+ghost use Rattle.arr_syntax.specs.Run.{is_end, behind};
+ghost use Rattle.arr_syntax.specs.Tokens.{digits, decimal, number_of, is_blank, is_letter, is_word_byte, word, find_word, statement_words, call_words, fold_words, type_words, reserved, word_of, sign_of_one, sign_with_equal, sign_doubled, sign_of_two, sign_piece, piece, comment, beyond, place_behind, items_from};
+
+use crate::lists::Name;
+use crate::refusal::Place;
+use crate::token::{Item, Keyword, Sign, Token, View};
+use crate::tree::{Code16, Type4};
+use std::alloc::{AllocError, Global};
+
+fn is_blank(byte: u8) -> bool
+    ensures { result ≡ is_blank byte }
+{
+    byte == b' ' || byte == b'\t' || byte == b'\r'
+}
+
+/// A letter or `_`.
+fn is_letter(byte: u8) -> bool
+    ensures { result ≡ is_letter byte }
+{
+    byte.is_ascii_uppercase() || byte.is_ascii_lowercase() || byte == b'_'
+}
+
+fn is_word_byte(byte: u8) -> bool
+    ensures { result ≡ is_word_byte byte }
+{
+    is_letter(byte) || byte.is_ascii_digit()
+}
+
+/// How many digits stand in front.
+fn digits(bytes: &[u8]) -> usize
+    ensures { result ≡ length (digits bytes.now) }
+{
+    bytes.iter().take_while(|b| b.is_ascii_digit()).count()
+}
+
+/// How many bytes of a word stand in front.
+fn word(bytes: &[u8]) -> usize
+    ensures { result ≡ length (word bytes.now) }
+{
+    bytes.iter().take_while(|b| is_word_byte(**b)).count()
+}
+
+/// How many bytes stand before the next line feed.
+fn comment(bytes: &[u8]) -> usize
+    ensures { result ≡ length (comment bytes.now) }
+{
+    bytes.iter().take_while(|b| **b != b'\n').count()
+}
+
+/// The number that the digits spell, if it fits.
+fn number(digits: &[u8]) -> Token
+    ensures { result ≡ number_of (decimal 0 digits.now) }
+{
+    let mut value: u64 = 0;
+    for b in digits {
+        let digit = u64::from(b.saturating_sub(b'0'));
+        let Some(tens) = value.checked_mul(10) else {
+            return Token::Wide;
+        };
+        let Some(sum) = tens.checked_add(digit) else {
+            return Token::Wide;
+        };
+        value = sum;
+    }
+    Token::Number(value)
+}
+
+fn statement_word(word: &[u8]) -> Option<Keyword>
+    ensures { result ≡ find_word word.now statement_words }
+{
+    if word == b"print".as_slice() {
+        Some(Keyword::Print)
+    } else if word == b"del".as_slice() {
+        Some(Keyword::Del)
+    } else if word == b"flush".as_slice() {
+        Some(Keyword::Flush)
+    } else if word == b"gather".as_slice() {
+        Some(Keyword::Unused)
+    } else if word == b"scatter".as_slice() {
+        Some(Keyword::Unused)
+    } else {
+        None
+    }
+}
+
+fn call_word(word: &[u8]) -> Option<Keyword>
+    ensures { result ≡ find_word word.now call_words }
+{
+    if word == b"range".as_slice() {
+        Some(Keyword::Range)
+    } else if word == b"full".as_slice() {
+        Some(Keyword::Full)
+    } else if word == b"abs".as_slice() {
+        Some(Keyword::Absolute)
+    } else if word == b"minimum".as_slice() {
+        Some(Keyword::Pair(Code16::Minimum))
+    } else if word == b"maximum".as_slice() {
+        Some(Keyword::Pair(Code16::Maximum))
+    } else if word == b"broadcast".as_slice() {
+        Some(Keyword::View(View::Broadcast))
+    } else if word == b"transpose".as_slice() {
+        Some(Keyword::View(View::Transpose))
+    } else if word == b"reshape".as_slice() {
+        Some(Keyword::View(View::Reshape))
+    } else if word == b"strided".as_slice() {
+        Some(Keyword::View(View::Strided))
+    } else {
+        None
+    }
+}
+
+fn fold_word(word: &[u8]) -> Option<Keyword>
+    ensures { result ≡ find_word word.now fold_words }
+{
+    if word == b"sum".as_slice() {
+        Some(Keyword::Fold(Code16::AddReduce))
+    } else if word == b"prod".as_slice() {
+        Some(Keyword::Fold(Code16::MultiplyReduce))
+    } else if word == b"min".as_slice() {
+        Some(Keyword::Fold(Code16::MinimumReduce))
+    } else if word == b"max".as_slice() {
+        Some(Keyword::Fold(Code16::MaximumReduce))
+    } else if word == b"cumsum".as_slice() {
+        Some(Keyword::Fold(Code16::AddAccumulate))
+    } else if word == b"cumprod".as_slice() {
+        Some(Keyword::Fold(Code16::MultiplyAccumulate))
+    } else {
+        None
+    }
+}
+
+fn type_word(word: &[u8]) -> Option<Keyword>
+    ensures { result ≡ find_word word.now type_words }
+{
+    if word == b"u8".as_slice() {
+        Some(Keyword::Type(Type4::U8))
+    } else if word == b"i32".as_slice() {
+        Some(Keyword::Type(Type4::I32))
+    } else if word == b"i64".as_slice() {
+        Some(Keyword::Type(Type4::I64))
+    } else if word == b"u64".as_slice() {
+        Some(Keyword::Type(Type4::U64))
+    } else {
+        None
+    }
+}
+
+fn reserved(word: &[u8]) -> Option<Keyword>
+    ensures { result ≡ reserved word.now }
+{
+    statement_word(word)
+        .or(call_word(word))
+        .or(fold_word(word))
+        .or(type_word(word))
+}
+
+/// The longest word that is a name.
+const LONGEST_NAME: usize = 64;
+
+/// The token of a word.
+fn word_of(alloc: Global, word: &[u8]) -> Result<Token, AllocError>
+    ensures { IfOk result (λ t. t ≡ word_of word.now) }
+{
+    if let Some(keyword) = reserved(word) {
+        return Ok(Token::Keyword(keyword));
+    }
+    if word.len() > LONGEST_NAME {
+        return Ok(Token::Long);
+    }
+    Ok(Token::Name(Name::new(Vec::from_slice(alloc, word)?)))
+}
+
+fn sign_of_one(byte: u8) -> Option<Sign>
+    ensures { result ≡ sign_of_one byte }
+{
+    match byte {
+        b'=' => Some(Sign::Assign),
+        b'<' => Some(Sign::Less),
+        b'>' => Some(Sign::Greater),
+        b'+' => Some(Sign::Plus),
+        b'-' => Some(Sign::Minus),
+        b'*' => Some(Sign::Star),
+        b'/' => Some(Sign::Slash),
+        b'%' => Some(Sign::Percent),
+        b'&' => Some(Sign::And),
+        b'|' => Some(Sign::Or),
+        b'^' => Some(Sign::Xor),
+        b'~' => Some(Sign::Not),
+        b'(' => Some(Sign::Open),
+        b')' => Some(Sign::Close),
+        b'[' => Some(Sign::OpenIndex),
+        b']' => Some(Sign::CloseIndex),
+        b',' => Some(Sign::Comma),
+        b':' => Some(Sign::Colon),
+        _ => None,
+    }
+}
+
+fn sign_with_equal(byte: u8) -> Option<Sign>
+    ensures { result ≡ sign_with_equal byte }
+{
+    match byte {
+        b'=' => Some(Sign::Equal),
+        b'!' => Some(Sign::NotEqual),
+        b'<' => Some(Sign::LessEqual),
+        b'>' => Some(Sign::GreaterEqual),
+        _ => None,
+    }
+}
+
+fn sign_doubled(byte: u8) -> Option<Sign>
+    ensures { result ≡ sign_doubled byte }
+{
+    match byte {
+        b'<' => Some(Sign::LeftShift),
+        b'>' => Some(Sign::RightShift),
+        b'*' => Some(Sign::Power),
+        _ => None,
+    }
+}
+
+/// The sign of two bytes, of which this is the first one.
+fn sign_of_two(first: u8, behind: &[u8]) -> Option<Sign>
+    ensures { result ≡ sign_of_two first behind.now }
+{
+    if behind.is_empty() {
+        return None;
+    }
+    let second = behind[0];
+    if second == b'=' {
+        sign_with_equal(first)
+    } else if second == first {
+        sign_doubled(first)
+    } else {
+        None
+    }
+}
+
+fn sign_piece(first: u8, behind: &[u8]) -> (Option<Token>, usize)
+    ensures what { (result.0 ≡ (sign_piece first behind.now).0) × (result.1 ≡ (sign_piece first behind.now).1) }
+    ensures some { 0 < result.1 }
+    ensures within { result.1 ≤ length behind.now + 1 }
+{
+    if let Some(sign) = sign_of_two(first, behind) {
+        return (Some(Token::Sign(sign)), 2);
+    }
+    match sign_of_one(first) {
+        Some(sign) => (Some(Token::Sign(sign)), 1),
+        None => (Some(Token::Bad), 1),
+    }
+}
+
+/// The token in front, none for a blank or a comment, and its length.
+fn piece(alloc: Global, bytes: &[u8]) -> Result<(Option<Token>, usize), AllocError>
+    requires { 0 < length bytes.now }
+    ensures what { IfOk result (λ x. (x.0 ≡ (piece bytes.now).0) × (x.1 ≡ (piece bytes.now).1)) }
+    ensures some { IfOk result (λ x. 0 < x.1) }
+    ensures within { IfOk result (λ x. x.1 ≤ length bytes.now) }
+{
+    let first = bytes[0];
+    if first == b'\n' {
+        return Ok((Some(Token::Line), 1));
+    }
+    if is_blank(first) {
+        return Ok((None, 1));
+    }
+    if first == b'#' {
+        return Ok((None, comment(bytes)));
+    }
+    if first.is_ascii_digit() {
+        let size = digits(bytes);
+        return Ok((Some(number(&bytes[..size])), size));
+    }
+    if is_letter(first) {
+        let size = word(bytes);
+        return Ok((Some(word_of(alloc, &bytes[..size])?), size));
+    }
+    Ok(sign_piece(first, &bytes[1..]))
+}
+
+fn beyond(at: Place, byte: u8) -> Place
+    requires { (at.line + 1 < 2 ^ 32) × (at.column + 1 < 2 ^ 32) }
+    ensures what { result ≡ beyond at byte }
+    ensures line { result.line ≤ at.line + 1 }
+    ensures column { result.column ≤ at.column + 1 }
+{
+    if byte == b'\n' {
+        Place {
+            line: at.line + 1,
+            column: 1,
+        }
+    } else {
+        Place {
+            line: at.line,
+            column: at.column + 1,
+        }
+    }
+}
+
+/// The place behind the bytes.
+fn place_behind(at: Place, bytes: &[u8]) -> Place
+    requires { (at.line + length bytes.now < 2 ^ 32) × (at.column + length bytes.now < 2 ^ 32) }
+    ensures what { result ≡ place_behind at bytes.now }
+    ensures line { result.line ≤ at.line + length bytes.now }
+    ensures column { result.column ≤ at.column + length bytes.now }
+{
+    let mut place = at;
+    for b in bytes {
+        place = beyond(place, *b);
+    }
+    place
+}
+
+/// The bytes of a text that are still to be cut, and the place of the first of them.
+#[derive(Drop)]
+pub struct Text<'a> {
+    pub rest: &'a [u8],
+    pub at: Place,
+    ghost fits: { (at.line + length rest.now < 2 ^ 32) × (at.column + length rest.now < 2 ^ 32) },
+}
+
+impl Text<'_> {
+    /// The next token, which is the end where no byte is left.
+    pub fn next(&mut self, alloc: Global) -> Result<Item, AllocError>
+        ensures next { IfOk result (λ i. items_from 0 self.old.at self.old.rest.now ≡ i ∷ behind i (items_from 0 self.new.at self.new.rest.now)) }
+        ensures shorter { IfOk result (λ i. is_end i.token ≡ false → length self.new.rest.now < length self.old.rest.now) }
+    {
+        'pieces: while !self.rest.is_empty() {
+            let at = self.at;
+            let (token, size) = piece(alloc, self.rest)?;
+            let (front, behind) = self.rest.split_at(size);
+            self.at = place_behind(at, front);
+            self.rest = behind;
+            if let Some(token) = token {
+                return Ok(Item { token, at });
+            }
+        }
+        Ok(Item {
+            token: Token::End,
+            at: self.at,
+        })
+    }
+}

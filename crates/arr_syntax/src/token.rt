@@ -1,0 +1,84 @@
+use crate::lists::Name;
+use crate::refusal::Place;
+use crate::tree::{Code16, Type4};
+
+/// The signs, each a token of one or two bytes.
+#[derive(Clone, Copy)]
+pub enum Sign {
+    Equal,
+    NotEqual,
+    LessEqual,
+    GreaterEqual,
+    LeftShift,
+    RightShift,
+    Power,
+    Assign,
+    Less,
+    Greater,
+    Plus,
+    Minus,
+    Star,
+    Slash,
+    Percent,
+    And,
+    Or,
+    Xor,
+    Not,
+    Open,
+    Close,
+    OpenIndex,
+    CloseIndex,
+    Comma,
+    Colon,
+}
+
+/// The calls that show an array's elements in another shape. They can stand as a target.
+#[derive(Clone, Copy)]
+pub enum View {
+    Broadcast,
+    Transpose,
+    Reshape,
+    Strided,
+}
+
+/// The reserved words.
+#[derive(Clone, Copy)]
+pub enum Keyword {
+    Print,
+    Del,
+    Flush,
+    Range,
+    Full,
+    /// `sum`, `prod`, `min`, `max`, `cumsum` and `cumprod`
+    Fold(Code16),
+    Absolute,
+    /// `minimum` and `maximum`
+    Pair(Code16),
+    View(View),
+    Type(Type4),
+    /// `gather` and `scatter`, which have no use
+    Unused,
+}
+
+#[derive(Drop)]
+pub enum Token {
+    Number(u64),
+    /// A number above 18446744073709551615.
+    Wide,
+    Name(Name),
+    /// A word of more than 64 bytes.
+    Long,
+    Keyword(Keyword),
+    Sign(Sign),
+    Line,
+    End,
+    /// A byte that begins no token.
+    Bad,
+}
+
+/// A token, and the place of its first byte.
+#[derive(Drop)]
+pub struct Item {
+    pub token: Token,
+    pub at: Place,
+}
