@@ -1,0 +1,4 @@
+pub mod Lists
+pub mod Bound
+pub mod Given
+pub mod Whole

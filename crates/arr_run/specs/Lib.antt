@@ -1,0 +1,5 @@
+pub mod Words
+pub mod Texts
+pub mod Eager
+pub mod Shown
+pub mod Answers
