@@ -1,5 +1,5 @@
 -- Each state can be completed, stays well formed, and is over only at the end.
-use Rattle.std.proofs.Common.{◌≡◌, ℕ, zero, suc, pos, neg_ℤ, ◌<◌, ◌≤◌, List, [], ◌∷◌, ◌++◌, Option, Some, None, refl, sym, ap, subst, arith, Bool, true, false, cond, ◌&&◌, eqb, nat_le, nat_lt, ◌∙◌, ◌⊎◌, inl, inr}
+use Rattle.std.proofs.Common.{◌≡◌, ℕ, pos, neg_ℤ, ◌<◌, ◌≤◌, List, [], ◌∷◌, ◌++◌, Option, Some, None, refl, sym, subst, arith, Bool, true, false, cond, ◌&&◌, nat_le, nat_lt, inl}
 use Rattle.std.proofs.lemmas.Bool.Decides.{nat_tests}
 use Rattle.arr_syntax.specs.declared.refusal.Place.{Place}
 use Rattle.arr_syntax.specs.declared.token.Item.{Item}
@@ -8,8 +8,6 @@ use Rattle.arr_syntax.specs.declared.token.Token.TheVariants as token
 use Rattle.arr_syntax.specs.declared.token.Sign.{Sign}
 use Rattle.arr_syntax.specs.declared.token.Sign.TheVariants as sign
 use Rattle.arr_syntax.specs.declared.token.Keyword.TheVariants as keyword
-use Rattle.arr_syntax.specs.declared.token.View.{View}
-use Rattle.arr_syntax.specs.declared.token.View.TheVariants.{Broadcast, Transpose, Reshape, Strided}
 use Rattle.arr_syntax.specs.declared.state.Mode.{Mode}
 use Rattle.arr_syntax.specs.declared.state.Mode.TheVariants as mode
 use Rattle.arr_syntax.specs.declared.state.Callee.{Callee}
@@ -26,13 +24,10 @@ use Rattle.arr_syntax.specs.declared.state.Frame.TheVariants as frame
 use Rattle.arr_syntax.specs.declared.state.State.{State}
 use Rattle.arr_syntax.specs.declared.state.State.TheVariants as state
 use Rattle.arr_syntax.specs.declared.state.Move.{Move}
-use Rattle.arr_syntax.specs.declared.state.Move.TheVariants as move
 use Rattle.arr_syntax.specs.declared.state.Filled.{Filled}
 use Rattle.arr_syntax.specs.declared.state.Filled.TheVariants as filled
 use Rattle.arr_syntax.specs.declared.tree.Code16.{Code16}
 use Rattle.arr_syntax.specs.declared.tree.Code16.TheVariants as code
-use Rattle.arr_syntax.specs.declared.tree.Type4.{Type4}
-use Rattle.arr_syntax.specs.declared.tree.Cut.{Cut}
 use Rattle.arr_syntax.specs.declared.tree.Word.{Word}
 use Rattle.arr_syntax.specs.declared.tree.Expr.{Expr}
 use Rattle.arr_syntax.specs.declared.tree.Statement.{Statement}
@@ -41,7 +36,7 @@ use Rattle.arr_syntax.specs.Grammar as grammar
 use Rattle.arr_syntax.specs.Grammar.{operator, comparison, cut, literal_at, unary_at, binary_at, Ends, Script, Listed, Length, Stride, Slice}
 use Rattle.arr_syntax.specs.Machine as machine
 use Rattle.arr_syntax.specs.Machine.{level, sign_level, rank, operate, goes, give, leaves, fits, step, again, wanted_by, wanted, fresh, fill, parts_of, level_of, built, take_part, onward, opened, with_cut}
-use Rattle.arr_syntax.proofs.Completes.{IsEmpty, Then, Fills, PartIn, Climb, there, up, Goes, ValueIn, NodeIn, Argued, Leaves, After, Given, Tree, Wants, Completes, Next, Formed, Takes, WellFormed, WellMoved}
+use Rattle.arr_syntax.proofs.Completes.{Fills, PartIn, ValueIn, NodeIn, Argued, After, Given, Wants, Completes, Formed, Takes, WellFormed, WellMoved}
 use Rattle.arr_syntax.proofs.Filling.{item}
 use Rattle.arr_syntax.proofs.Forward.{operator_within, again_most}
 use Rattle.arr_syntax.proofs.Backward.{stops, climbed}

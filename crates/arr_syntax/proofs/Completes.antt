@@ -1,14 +1,9 @@
 -- What the tokens must be from a state on, by the grammar.
-use Rattle.std.proofs.Common.{◌≡◌, ℕ, zero, suc, ℤ, pos, neg_ℤ, ◌<◌, ◌≤◌, Bool, List, [], ◌∷◌, ◌++◌, Option, Some, None, ◌⊎◌}
+use Rattle.std.proofs.Common.{◌≡◌, ℕ, suc, ℤ, pos, neg_ℤ, ◌<◌, ◌≤◌, Bool, List, [], ◌∷◌, ◌++◌, Option, Some, ◌⊎◌}
 use Rattle.arr_syntax.specs.declared.refusal.Place.{Place}
 use Rattle.arr_syntax.specs.declared.token.Item.{Item}
-use Rattle.arr_syntax.specs.declared.token.Token.{Token}
-use Rattle.arr_syntax.specs.declared.token.Token.TheVariants as token
-use Rattle.arr_syntax.specs.declared.token.Sign.{Sign}
 use Rattle.arr_syntax.specs.declared.token.Sign.TheVariants as sign
 use Rattle.arr_syntax.specs.declared.token.Keyword.TheVariants as keyword
-use Rattle.arr_syntax.specs.declared.token.View.{View}
-use Rattle.arr_syntax.specs.declared.token.View.TheVariants.{Broadcast, Transpose, Reshape, Strided}
 use Rattle.arr_syntax.specs.declared.state.Mode.{Mode}
 use Rattle.arr_syntax.specs.declared.state.Mode.TheVariants as mode
 use Rattle.arr_syntax.specs.declared.state.Callee.{Callee}
@@ -28,16 +23,13 @@ use Rattle.arr_syntax.specs.declared.state.Move.{Move}
 use Rattle.arr_syntax.specs.declared.state.Move.TheVariants as move
 use Rattle.arr_syntax.specs.declared.state.Filled.{Filled}
 use Rattle.arr_syntax.specs.declared.state.Filled.TheVariants as filled
-use Rattle.arr_syntax.specs.declared.tree.Code16.{Code16}
 use Rattle.arr_syntax.specs.declared.tree.Code16.TheVariants as code
 use Rattle.arr_syntax.specs.declared.tree.Type4.{Type4}
 use Rattle.arr_syntax.specs.declared.tree.Cut.{Cut}
-use Rattle.arr_syntax.specs.declared.tree.Word.{Word}
 use Rattle.arr_syntax.specs.declared.tree.Expr.{Expr}
 use Rattle.arr_syntax.specs.declared.tree.Statement.{Statement}
-use Rattle.arr_syntax.specs.Grammar as grammar
-use Rattle.arr_syntax.specs.Grammar.{IsSign, IsKeyword, IsName, IsNumber, Literal, Listed, Bracketed, Length, Stride, Bound, Step, Slice, Shape, Strides, Index, Level, Placed, Rest, Script, Ends, unary_at, binary_at, index_at, name_of, word_at, delete_of}
-use Rattle.arr_syntax.specs.Machine.{fresh, with_cut, parts_of, built, level_of, wanted_by, wanted, stated, again}
+use Rattle.arr_syntax.specs.Grammar.{IsSign, IsKeyword, IsName, IsNumber, Literal, Listed, Length, Stride, Bound, Step, Slice, Shape, Strides, Index, Level, Placed, Rest, Script, Ends, unary_at, binary_at, index_at, name_of, word_at, delete_of}
+use Rattle.arr_syntax.specs.Machine.{fresh, with_cut, parts_of, built, level_of, wanted, stated, again}
 
 -- a token comes next of which this holds, with the tokens after it
 abbrev pub Then : List Item → (Item → List Item → Type 0) → Type 0

@@ -1,45 +1,20 @@
 -- What one token makes of a part, from the grammar to the machine and back.
-use Rattle.std.proofs.Common.{◌≡◌, ℕ, zero, suc, ℤ, pos, neg_ℤ, Bool, true, false, List, [], ◌∷◌, ◌++◌, Option, Some, None, ◌⊎◌, inl, inr, refl, sym, subst, append_assoc}
+use Rattle.std.proofs.Common.{ℕ, ℤ, pos, neg_ℤ, true, false, List, [], ◌∷◌, ◌++◌, Option, Some, None, inl, inr, refl, sym, subst, append_assoc}
 use Rattle.arr_syntax.specs.declared.refusal.Place.{Place}
 use Rattle.arr_syntax.specs.declared.token.Item.{Item}
 use Rattle.arr_syntax.specs.declared.token.Token.{Token}
 use Rattle.arr_syntax.specs.declared.token.Token.TheVariants as token
-use Rattle.arr_syntax.specs.declared.token.Sign.{Sign}
 use Rattle.arr_syntax.specs.declared.token.Sign.TheVariants as sign
 use Rattle.arr_syntax.specs.declared.token.Keyword.TheVariants as keyword
-use Rattle.arr_syntax.specs.declared.token.View.{View}
-use Rattle.arr_syntax.specs.declared.token.View.TheVariants.{Broadcast, Transpose, Reshape, Strided}
-use Rattle.arr_syntax.specs.declared.state.Mode.{Mode}
-use Rattle.arr_syntax.specs.declared.state.Mode.TheVariants as mode
-use Rattle.arr_syntax.specs.declared.state.Callee.{Callee}
-use Rattle.arr_syntax.specs.declared.state.Callee.TheVariants as callee
-use Rattle.arr_syntax.specs.declared.state.Node.{Node}
-use Rattle.arr_syntax.specs.declared.state.Node.TheVariants as node
 use Rattle.arr_syntax.specs.declared.state.Fields.{Fields}
 use Rattle.arr_syntax.specs.declared.state.Part.{Part}
 use Rattle.arr_syntax.specs.declared.state.Part.TheVariants as part
-use Rattle.arr_syntax.specs.declared.state.Head.{Head}
-use Rattle.arr_syntax.specs.declared.state.Head.TheVariants as head
-use Rattle.arr_syntax.specs.declared.state.Frame.{Frame}
-use Rattle.arr_syntax.specs.declared.state.Frame.TheVariants as frame
-use Rattle.arr_syntax.specs.declared.state.State.{State}
-use Rattle.arr_syntax.specs.declared.state.State.TheVariants as state
-use Rattle.arr_syntax.specs.declared.state.Move.{Move}
-use Rattle.arr_syntax.specs.declared.state.Move.TheVariants as move
-use Rattle.arr_syntax.specs.declared.state.Filled.{Filled}
-use Rattle.arr_syntax.specs.declared.state.Filled.TheVariants as filled
-use Rattle.arr_syntax.specs.declared.tree.Code16.{Code16}
-use Rattle.arr_syntax.specs.declared.tree.Code16.TheVariants as code
-use Rattle.arr_syntax.specs.declared.tree.Type4.{Type4}
 use Rattle.arr_syntax.specs.declared.tree.Cut.{Cut}
-use Rattle.arr_syntax.specs.declared.tree.Word.{Word}
-use Rattle.arr_syntax.specs.declared.tree.Expr.{Expr}
-use Rattle.arr_syntax.specs.declared.tree.Statement.{Statement}
 use Rattle.arr_syntax.specs.Grammar as grammar
 use Rattle.arr_syntax.specs.Grammar.{Listed, Length, Stride, Slice, cut, plain, negative, last, and_more, bracketed, one_length, one_stride, no_bound, one_bound, no_step, one_step, short, long}
 use Rattle.arr_syntax.specs.Machine as machine
 use Rattle.arr_syntax.specs.Machine.{fill, with_cut}
-use Rattle.arr_syntax.proofs.Completes.{PartIn, NextPart, LengthIn, StrideIn, MoreStridesIn, StartIn, AfterStepIn, StepIn, AfterStopIn, StopIn, LastTypeIn, MoreIn}
+use Rattle.arr_syntax.proofs.Completes.{PartIn, NextPart, LengthIn, StrideIn, MoreStridesIn, StartIn, AfterStepIn, StepIn, AfterStopIn, StopIn}
 
 module _ (K : Fields → List Item → Type 0) where
   -- one more length, stride or slice joins those before it

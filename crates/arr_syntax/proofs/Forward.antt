@@ -1,10 +1,9 @@
 -- What one token makes of what is wanted, from the grammar to the machine.
-use Rattle.std.proofs.Common.{◌≡◌, ℕ, zero, suc, ◌<◌, ◌≤◌, List, [], ◌∷◌, ◌++◌, Option, Some, None, refl, sym, ap, subst, arith, Bool, true, false, cond, ◌&&◌, eqb, nat_le, nat_lt, ◌∙◌, ◌⊎◌, inl, inr}
+use Rattle.std.proofs.Common.{◌≡◌, ℕ, suc, ◌<◌, ◌≤◌, List, [], ◌∷◌, Option, Some, None, refl, sym, ap, subst, arith, Bool, true, false, cond, ◌&&◌, eqb, nat_le, nat_lt, ◌⊎◌, inl, inr}
 use Rattle.std.proofs.lemmas.Bool.Decides.{nat_tests}
 use Rattle.arr_syntax.specs.declared.refusal.Place.{Place}
 use Rattle.arr_syntax.specs.declared.token.Item.{Item}
 use Rattle.arr_syntax.specs.declared.token.Token.{Token}
-use Rattle.arr_syntax.specs.declared.token.Token.TheVariants as token
 use Rattle.arr_syntax.specs.declared.token.Sign.{Sign}
 use Rattle.arr_syntax.specs.declared.token.Sign.TheVariants as sign
 use Rattle.arr_syntax.specs.declared.token.Keyword.TheVariants as keyword
@@ -19,20 +18,15 @@ use Rattle.arr_syntax.specs.declared.state.Node.TheVariants as node
 use Rattle.arr_syntax.specs.declared.state.Fields.{Fields}
 use Rattle.arr_syntax.specs.declared.state.Part.{Part}
 use Rattle.arr_syntax.specs.declared.state.Part.TheVariants as part
-use Rattle.arr_syntax.specs.declared.state.Head.{Head}
-use Rattle.arr_syntax.specs.declared.state.Head.TheVariants as head
 use Rattle.arr_syntax.specs.declared.state.Frame.{Frame}
 use Rattle.arr_syntax.specs.declared.state.Frame.TheVariants as frame
 use Rattle.arr_syntax.specs.declared.state.State.{State}
 use Rattle.arr_syntax.specs.declared.state.State.TheVariants as state
 use Rattle.arr_syntax.specs.declared.state.Move.{Move}
-use Rattle.arr_syntax.specs.declared.state.Move.TheVariants as move
 use Rattle.arr_syntax.specs.declared.state.Filled.{Filled}
 use Rattle.arr_syntax.specs.declared.state.Filled.TheVariants as filled
 use Rattle.arr_syntax.specs.declared.tree.Code16.{Code16}
 use Rattle.arr_syntax.specs.declared.tree.Code16.TheVariants as code
-use Rattle.arr_syntax.specs.declared.tree.Type4.{Type4}
-use Rattle.arr_syntax.specs.declared.tree.Cut.{Cut}
 use Rattle.arr_syntax.specs.declared.tree.Word.{Word}
 use Rattle.arr_syntax.specs.declared.tree.Expr.{Expr}
 use Rattle.arr_syntax.specs.declared.tree.Statement.{Statement}
@@ -40,7 +34,7 @@ use Rattle.arr_syntax.specs.Grammar as grammar
 use Rattle.arr_syntax.specs.Grammar.{IsSign, IsKeyword, Rest, Level, Primary, Placed, ViewCall, Argument, Ends, Script, OneStatement, operator, comparison, index_at, name_of, word_at, unary_at, binary_at}
 use Rattle.arr_syntax.specs.Machine as machine
 use Rattle.arr_syntax.specs.Machine.{level, sign_level, rank, operate, goes, give, leaves, fits, step, again, wanted_by, wanted, fresh, fill, parts_of, level_of, built, take_part, onward, opened}
-use Rattle.arr_syntax.proofs.Completes.{Fills, PartIn, NextPart, Climb, there, up, Goes, ValueIn, NodeIn, Argued, Leaves, After, Given, Tree, Wants, Completes, Next, Formed, Takes, WellFormed}
+use Rattle.arr_syntax.proofs.Completes.{Fills, NextPart, Climb, there, up, Goes, Argued, After, Given, Tree, Wants, Completes, Next, Formed, Takes, WellFormed}
 use Rattle.arr_syntax.proofs.Filling.{fill_on}
 
 pub cond_no : {A : Type 0} (b : Bool) (x y : A) → b ≡ false → cond b x y ≡ y

@@ -1,5 +1,5 @@
 -- The run refuses the first token that has a fault, and else gives the script.
-use Rattle.std.proofs.Common.{◌≡◌, ℕ, suc, ◌<◌, ◌≤◌, List, [], ◌∷◌, ◌++◌, Option, Some, None, IfSome, Result, Ok, Err, refl, sym, ap, subst, arith, Bool, true, false, ◌&&◌, ◌∙◌, nat_le, cond, append-nil, append_assoc, ◌⊎◌, inl, inr}
+use Rattle.std.proofs.Common.{◌≡◌, ℕ, ◌<◌, ◌≤◌, List, [], ◌∷◌, ◌++◌, Option, Some, None, IfSome, Result, Ok, Err, refl, sym, ap, subst, arith, Bool, true, false, ◌&&◌, ◌∙◌, nat_le, cond, append-nil, append_assoc, ◌⊎◌, inl, inr}
 use Rattle.std.proofs.lemmas.Bool.Decides.{nat_tests}
 use Rattle.arr_syntax.specs.declared.token.Item.{Item}
 use Rattle.arr_syntax.specs.declared.token.Token.{Token}
@@ -7,8 +7,6 @@ use Rattle.arr_syntax.specs.declared.token.Token.TheVariants as token
 use Rattle.arr_syntax.specs.declared.refusal.Kind.{Kind}
 use Rattle.arr_syntax.specs.declared.refusal.Kind.TheVariants.{BadByte, NumberTooWide, NameTooLong, StatementTooLong, TooDeep, Unexpected}
 use Rattle.arr_syntax.specs.declared.refusal.Refusal.{Refusal}
-use Rattle.arr_syntax.specs.declared.refusal.ParseFault.{ParseFault}
-use Rattle.arr_syntax.specs.declared.refusal.ParseFault.TheVariants.{Refused, NoMemory}
 use Rattle.arr_syntax.specs.declared.state.State.{State}
 use Rattle.arr_syntax.specs.declared.state.State.TheVariants as state
 use Rattle.arr_syntax.specs.declared.state.Move.{Move}
@@ -17,8 +15,8 @@ use Rattle.arr_syntax.specs.declared.tree.Statement.{Statement}
 use Rattle.arr_syntax.specs.Grammar as grammar
 use Rattle.arr_syntax.specs.Machine.{step}
 use Rattle.arr_syntax.specs.Limits.{open_limit, length_limit, is_counted, is_opening, open_after, used_after, open_from, used_from}
-use Rattle.arr_syntax.specs.Run.{run, verdict, own_fault, count_fault, open_fault, expected, unless, outcome, proceed, judged, Reading}
-use Rattle.arr_syntax.specs.Refused.{Begins, Fits, rank, IsRefusedAt, NoneFits, IsRefused, IsScript, IfRefused}
+use Rattle.arr_syntax.specs.Run.{run, verdict, own_fault, count_fault, open_fault, expected, unless, outcome, judged, Reading}
+use Rattle.arr_syntax.specs.Refused.{Begins, Fits, rank, IsRefusedAt, NoneFits, IsRefused, IsScript}
 use Rattle.arr_syntax.proofs.Completes.{Completes, Next, WellFormed, WellMoved}
 use Rattle.arr_syntax.proofs.Forward.{forward}
 use Rattle.arr_syntax.proofs.Backward.{backward}

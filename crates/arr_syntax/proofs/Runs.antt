@@ -1,14 +1,9 @@
 -- One token of a run, and the last one.
-use Rattle.std.proofs.Common.{◌≡◌, ℕ, List, [], ◌∷◌, ◌++◌, Option, Some, None, Result, Ok, Err, refl, sym, ap, subst, arith, Bool, true, false, cond, ◌∙◌, MatchResult, IfOk}
+use Rattle.std.proofs.Common.{◌≡◌, ℕ, List, [], ◌∷◌, ◌++◌, Some, None, Ok, Err, refl, sym, ap, subst, Bool, true, false, cond, ◌∙◌}
 use Rattle.arr_syntax.specs.declared.refusal.Place.{Place}
 use Rattle.arr_syntax.specs.declared.token.Item.{Item}
 use Rattle.arr_syntax.specs.declared.token.Token.{Token}
 use Rattle.arr_syntax.specs.declared.token.Token.TheVariants as token
-use Rattle.arr_syntax.specs.declared.token.Sign.{Sign}
-use Rattle.arr_syntax.specs.declared.token.Sign.TheVariants as sign
-use Rattle.arr_syntax.specs.declared.token.Keyword.TheVariants as keyword
-use Rattle.arr_syntax.specs.declared.token.View.{View}
-use Rattle.arr_syntax.specs.declared.token.View.TheVariants.{Broadcast, Transpose, Reshape, Strided}
 use Rattle.arr_syntax.specs.declared.state.Mode.{Mode}
 use Rattle.arr_syntax.specs.declared.state.Mode.TheVariants as mode
 use Rattle.arr_syntax.specs.declared.state.Callee.{Callee}
@@ -18,26 +13,18 @@ use Rattle.arr_syntax.specs.declared.state.Node.TheVariants as node
 use Rattle.arr_syntax.specs.declared.state.Fields.{Fields}
 use Rattle.arr_syntax.specs.declared.state.Part.{Part}
 use Rattle.arr_syntax.specs.declared.state.Part.TheVariants as part
-use Rattle.arr_syntax.specs.declared.state.Head.{Head}
-use Rattle.arr_syntax.specs.declared.state.Head.TheVariants as head
 use Rattle.arr_syntax.specs.declared.state.Frame.{Frame}
 use Rattle.arr_syntax.specs.declared.state.Frame.TheVariants as frame
 use Rattle.arr_syntax.specs.declared.state.State.{State}
 use Rattle.arr_syntax.specs.declared.state.State.TheVariants as state
 use Rattle.arr_syntax.specs.declared.state.Move.{Move}
 use Rattle.arr_syntax.specs.declared.state.Move.TheVariants as move
-use Rattle.arr_syntax.specs.declared.state.Filled.{Filled}
 use Rattle.arr_syntax.specs.declared.state.Filled.TheVariants as filled
-use Rattle.arr_syntax.specs.declared.tree.Code16.{Code16}
 use Rattle.arr_syntax.specs.declared.tree.Code16.TheVariants as code
-use Rattle.arr_syntax.specs.declared.tree.Type4.{Type4}
-use Rattle.arr_syntax.specs.declared.tree.Cut.{Cut}
-use Rattle.arr_syntax.specs.declared.tree.Word.{Word}
 use Rattle.arr_syntax.specs.declared.tree.Expr.{Expr}
 use Rattle.arr_syntax.specs.declared.tree.Statement.{Statement}
 use Rattle.arr_syntax.specs.declared.refusal.Kind.{Kind}
 use Rattle.arr_syntax.specs.declared.refusal.Kind.TheVariants.{Unexpected}
-use Rattle.arr_syntax.specs.declared.refusal.Refusal.{Refusal}
 use Rattle.arr_syntax.specs.declared.refusal.ParseFault.{ParseFault}
 use Rattle.arr_syntax.specs.declared.refusal.ParseFault.TheVariants.{Refused, NoMemory}
 use Rattle.arr_syntax.specs.Grammar.{unary_at, binary_at}
@@ -45,8 +32,8 @@ use Rattle.arr_syntax.specs.Limits.{open_after, used_after}
 use Rattle.arr_syntax.specs.Machine as machine
 use Rattle.arr_syntax.specs.Machine.{step, give, fits, goes, leaves, fill, take_part, onward, first_part, fresh, again}
 use Rattle.arr_syntax.specs.Run.{run, own_fault, count_fault, open_fault, outcome, Reading, is_stuck, is_end, behind, Refuses}
-use Rattle.arr_syntax.specs.Refused.{IfRefused, IsRefused, IsScript}
-use Rattle.arr_syntax.proofs.Reading.{run_one, run_end, run_refuses, run_script}
+use Rattle.arr_syntax.specs.Refused.{IfRefused, IsRefused}
+use Rattle.arr_syntax.proofs.Reading.{run_one, run_end, run_refuses}
 
 module _ (o u : ℕ) (done : List Statement) (st : State) (i : Item) (is : List Item) where
   pub run_own : (k : Kind) → own_fault i.token ≡ Some k → run o u done st (i ∷ is) ≡ Err (record { at = i.at; kind = k })

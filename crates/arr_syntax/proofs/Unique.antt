@@ -2,37 +2,21 @@
 use Rattle.std.proofs.Common.{◌≡◌, ℕ, zero, suc, ℤ, ◌<◌, List, [], ◌∷◌, ◌++◌, refl, sym, ap, subst, arith, ◌∙◌, ◌⊎◌, inl, inr}
 use Rattle.arr_syntax.specs.declared.refusal.Place.{Place}
 use Rattle.arr_syntax.specs.declared.token.Item.{Item}
-use Rattle.arr_syntax.specs.declared.token.Token.{Token}
-use Rattle.arr_syntax.specs.declared.token.Token.TheVariants as token
-use Rattle.arr_syntax.specs.declared.token.Sign.{Sign}
-use Rattle.arr_syntax.specs.declared.token.Sign.TheVariants as sign
-use Rattle.arr_syntax.specs.declared.token.Keyword.TheVariants as keyword
-use Rattle.arr_syntax.specs.declared.token.View.{View}
 use Rattle.arr_syntax.specs.declared.token.View.TheVariants.{Broadcast, Transpose, Reshape, Strided}
 use Rattle.arr_syntax.specs.declared.state.Mode.{Mode}
 use Rattle.arr_syntax.specs.declared.state.Mode.TheVariants as mode
 use Rattle.arr_syntax.specs.declared.state.Callee.{Callee}
 use Rattle.arr_syntax.specs.declared.state.Callee.TheVariants as callee
-use Rattle.arr_syntax.specs.declared.state.Node.{Node}
-use Rattle.arr_syntax.specs.declared.state.Node.TheVariants as node
 use Rattle.arr_syntax.specs.declared.state.Fields.{Fields}
 use Rattle.arr_syntax.specs.declared.state.Part.{Part}
 use Rattle.arr_syntax.specs.declared.state.Part.TheVariants as part
-use Rattle.arr_syntax.specs.declared.state.Head.{Head}
-use Rattle.arr_syntax.specs.declared.state.Head.TheVariants as head
 use Rattle.arr_syntax.specs.declared.state.Frame.{Frame}
 use Rattle.arr_syntax.specs.declared.state.Frame.TheVariants as frame
 use Rattle.arr_syntax.specs.declared.state.State.{State}
 use Rattle.arr_syntax.specs.declared.state.State.TheVariants as state
 use Rattle.arr_syntax.specs.declared.state.Move.{Move}
 use Rattle.arr_syntax.specs.declared.state.Move.TheVariants as move
-use Rattle.arr_syntax.specs.declared.state.Filled.{Filled}
-use Rattle.arr_syntax.specs.declared.state.Filled.TheVariants as filled
-use Rattle.arr_syntax.specs.declared.tree.Code16.{Code16}
-use Rattle.arr_syntax.specs.declared.tree.Code16.TheVariants as code
-use Rattle.arr_syntax.specs.declared.tree.Type4.{Type4}
 use Rattle.arr_syntax.specs.declared.tree.Cut.{Cut}
-use Rattle.arr_syntax.specs.declared.tree.Word.{Word}
 use Rattle.arr_syntax.specs.declared.tree.Expr.{Expr}
 use Rattle.arr_syntax.specs.declared.tree.Statement.{Statement}
 use Rattle.arr_syntax.specs.declared.refusal.Kind.{Kind}
@@ -42,9 +26,9 @@ use Rattle.arr_syntax.specs.declared.refusal.ParseFault.{ParseFault}
 use Rattle.arr_syntax.specs.declared.refusal.ParseFault.TheVariants.{Refused, NoMemory}
 use Rattle.arr_syntax.specs.Grammar as grammar
 use Rattle.arr_syntax.specs.Grammar.{Listed, Length, Stride, Slice, Ends, Level, Placed, Primary, ViewCall, Rest, Script, OneStatement, unary_at, binary_at}
-use Rattle.arr_syntax.specs.Machine.{step, wanted, again, parts_of, fresh}
+use Rattle.arr_syntax.specs.Machine.{step}
 use Rattle.arr_syntax.specs.Refused.{Fits, rank, IsRefused, IsScript, IfRefused}
-use Rattle.arr_syntax.proofs.Completes.{PartIn, Fills, LengthIn, StrideIn, StartIn, StopIn, StepIn, AfterStopIn, Climb, there, up, NodeIn, Argued, After, Given, Wants, Completes, Next, WellFormed, WellMoved}
+use Rattle.arr_syntax.proofs.Completes.{PartIn, Fills, Climb, there, up, Argued, After, Given, Wants, Completes, Next, WellFormed, WellMoved}
 use Rattle.arr_syntax.proofs.Forward.{forward}
 use Rattle.arr_syntax.proofs.Completable.{step_formed}
 

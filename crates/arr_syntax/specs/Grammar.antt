@@ -2,7 +2,6 @@
 use Rattle.std.specs.Prelude.{◌≡◌, ℕ, zero, suc, ℤ, pos, neg_ℤ, Bool, true, false, List, [], ◌∷◌, Option, Some, None}
 use Rattle.arr_syntax.specs.declared.refusal.Place.{Place}
 use Rattle.arr_syntax.specs.declared.token.Item.{Item}
-use Rattle.arr_syntax.specs.declared.token.Token.{Token}
 use Rattle.arr_syntax.specs.declared.token.Token.TheVariants as token
 use Rattle.arr_syntax.specs.declared.token.Sign.{Sign}
 use Rattle.arr_syntax.specs.declared.token.Sign.TheVariants as sign

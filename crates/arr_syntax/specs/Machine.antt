@@ -1,5 +1,5 @@
 -- What is still wanted while a script is read from left to right, and what one more token makes of it.
-use Rattle.std.specs.Prelude.{ℕ, zero, suc, pos, neg_ℤ, Bool, true, false, ◌&&◌, List, [], ◌∷◌, ◌++◌, Option, Some, None, eqb, nat_le, nat_lt, cond, if◌then◌else◌}
+use Rattle.std.specs.Prelude.{ℕ, pos, neg_ℤ, Bool, true, false, ◌&&◌, List, [], ◌∷◌, ◌++◌, Option, Some, None, eqb, nat_le, nat_lt, cond, if◌then◌else◌}
 use Rattle.arr_syntax.specs.declared.refusal.Place.{Place}
 use Rattle.arr_syntax.specs.declared.token.Item.{Item}
 use Rattle.arr_syntax.specs.declared.token.Token.{Token}
@@ -30,7 +30,6 @@ use Rattle.arr_syntax.specs.declared.state.Filled.{Filled}
 use Rattle.arr_syntax.specs.declared.state.Filled.TheVariants as filled
 use Rattle.arr_syntax.specs.declared.tree.Code16.{Code16}
 use Rattle.arr_syntax.specs.declared.tree.Code16.TheVariants as code
-use Rattle.arr_syntax.specs.declared.tree.Type4.{Type4}
 use Rattle.arr_syntax.specs.declared.tree.Type4.TheVariants.{I64}
 use Rattle.arr_syntax.specs.declared.tree.Cut.{Cut}
 use Rattle.arr_syntax.specs.declared.tree.Word.{Word}

@@ -1,4 +1,4 @@
-use Rattle.std.proofs.Common.{◌∙◌, sym, ap, [], ◌≡◌, List, true}
+use Rattle.std.proofs.Common.{◌∙◌, sym, ap, List}
 use Rattle.arr_syntax.specs.declared.token.Item.{Item}
 use Rattle.arr_syntax.specs.Run.{run}
 use Rattle.arr_syntax.proofs.Runs.{read_last}

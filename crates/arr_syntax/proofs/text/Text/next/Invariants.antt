@@ -1,4 +1,4 @@
-use Rattle.std.proofs.Common.{◌≡◌, ◌≤◌, ◌<◌, ◌+◌, ◌^◌, length}
+use Rattle.std.proofs.Common.{◌≡◌, ◌≤◌, length}
 use Rattle.arr_syntax.specs.Tokens.{items_from}
 use Rattle.arr_syntax.proofs.text.Text.next.Given as goal
 
