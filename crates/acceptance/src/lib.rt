@@ -7,6 +7,8 @@ mod grammar;
 #[cfg(test)]
 mod numbers;
 #[cfg(test)]
+mod overlaps;
+#[cfg(test)]
 mod program;
 #[cfg(test)]
 mod views;

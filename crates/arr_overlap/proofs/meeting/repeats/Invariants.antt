@@ -1,0 +1,11 @@
+use Rattle.std.proofs.Common.{◌≡◌, ◌++◌, false}
+use Rattle.arr_view.specs.Views.{elements, repeated}
+use Rattle.arr_overlap.specs.Marks.{Marks}
+use Rattle.arr_overlap.proofs.meeting.repeats.Given as goal
+
+abbrev pub invariant-loop-element : goal.invariant-loop-element
+invariant-loop-element l = record {
+  whole : elements l.view ≡ l.yielded ++ l.element-iterator;
+  marks : Marks l.bits l.yielded;
+  fresh : repeated l.yielded ≡ false;
+}

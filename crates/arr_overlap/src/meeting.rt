@@ -1,0 +1,56 @@
+ghost use Rattle.std.specs.Prelude.{◌≡◌, IfOk, IsTrue};
+ghost use Rattle.arr_view.specs.Views.{elements, is_view, overlap, repeats};
+ghost use Rattle.arr_overlap.specs.Marks.{Marks};
+
+use crate::NoMemory;
+use arr_sets::Bits;
+use arr_view::{View, Walk};
+use std::alloc::Global;
+
+/// One more than the greatest element that a view may have.
+const MOST: u32 = 1_048_576;
+
+/// The elements of a view, marked in a row of bits.
+fn marked(alloc: Global, view: &View) -> Result<Bits, NoMemory>
+    requires { IsTrue (is_view view.now) }
+    ensures { IfOk result (λ bits. Marks bits (elements view.now)) }
+{
+    let mut bits = Bits::new(alloc, MOST)?;
+    for element in Walk::new(view) {
+        bits.insert(element);
+    }
+    Ok(bits)
+}
+
+/// Whether two positions of the view have one element (docs/PLANS.md, "Views").
+pub fn repeats(alloc: Global, view: &View) -> Result<bool, NoMemory>
+    ensures { IfOk result (λ r. r ≡ repeats view.now) }
+{
+    if view.positions() == 1 {
+        return Ok(false);
+    }
+    let mut bits = Bits::new(alloc, MOST)?;
+    for element in Walk::new(view) {
+        if bits.has(element) {
+            return Ok(true);
+        }
+        bits.insert(element);
+    }
+    Ok(false)
+}
+
+/// Whether the views have the same base and a common element (docs/PLANS.md, "Views").
+pub fn overlaps(alloc: Global, a: &View, b: &View) -> Result<bool, NoMemory>
+    ensures { IfOk result (λ r. r ≡ overlap a.now b.now) }
+{
+    if a.base() != b.base() {
+        return Ok(false);
+    }
+    let bits = marked(alloc, b)?;
+    for element in Walk::new(a) {
+        if bits.has(element) {
+            return Ok(true);
+        }
+    }
+    Ok(false)
+}
