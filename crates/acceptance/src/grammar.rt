@@ -351,3 +351,33 @@ fn the_longest_texts_are_read(rt: HostRuntime) -> Result<(), Fail> {
     assert_eq!(rt; answer_to(alloc, comment.as_slice()), Answer::Script(0));
     Ok(())
 }
+
+#[rattlefmt::skip]
+static WORKED: [Refused; 4] = [
+    (b"a = range(5", 1, 12, Kind::Unexpected),
+    (b"a = $", 1, 5, Kind::BadByte),
+    (b"a = range(18446744073709551616)", 1, 11, Kind::NumberTooWide),
+    (b"aaaaaaaaaaaaaaaaaaaaaaaaaaaaaaaaaaaaaaaaaaaaaaaaaaaaaaaaaaaaaaaaa", 1, 1, Kind::NameTooLong),
+];
+
+#[test]
+fn worked_refusals(rt: HostRuntime) -> Result<(), Fail> {
+    let alloc = rt.alloc();
+    assert_eq!(rt; first_wrong(alloc, &WORKED), None);
+    let name = b"a = ".to_vec(alloc)?;
+    let open = vec![in alloc; b'('; 65]?;
+    let deep = joined(alloc, &[name, open])?;
+    assert_eq!(rt;
+        answer_to(alloc, deep.as_slice()),
+        Answer::Refused(1, 69, Kind::TooDeep)
+    );
+    let mut long = b"print a".to_vec(alloc)?;
+    for _ in 0..512 {
+        long.extend_from_slice(b" + a")?;
+    }
+    assert_eq!(rt;
+        answer_to(alloc, long.as_slice()),
+        Answer::Refused(1, 2_053, Kind::StatementTooLong)
+    );
+    Ok(())
+}
