@@ -1,9 +1,9 @@
 -- What binding a name does to the names that are held.
-use Rattle.std.proofs.Common.{◌≡◌, ℕ, ℤ, List, ◌++◌, Option, Some, None, Bool, true, refl, ap, sym, ◌∙◌, subst, append-nil, Vec, cond, false, []}
+use Rattle.std.proofs.Common.{◌≡◌, ℕ, ℤ, List, Option, Some, Bool, true, refl, ap, sym, ◌∙◌, subst, append-nil, Vec, cond, false, []}
 use Rattle.std.specs.Option.{option_and_then, option_map}
 use Rattle.std.specs.Str.{bytes_eq}
 use Rattle.std.specs.Borrow.{Bor}
-use Rattle.std.specs.HashMap.{HashMap, get_by, UpdatesBy}
+use Rattle.std.specs.HashMap.{get_by, UpdatesBy}
 use Rattle.std.specs.declared.alloc.Global.{Global}
 use Rattle.std.proofs.lemmas.Map.Text.{hash_map_updates_str}
 use Rattle.arr_run.specs.Eager.{Names, bind, effect, name_in, named, value}

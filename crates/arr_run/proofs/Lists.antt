@@ -11,8 +11,6 @@ use Rattle.arr_num.specs.declared.elem.Elem.TheVariants.{I64}
 use Rattle.std.specs.Fmt.{signed_decimal}
 use Rattle.arr_run.specs.Texts.{spaced}
 use Rattle.arr_run.specs.Eager.{added}
-use Rattle.arr_syntax.specs.Tokens.{place_behind, beyond}
-use Rattle.arr_syntax.specs.declared.refusal.Place.{Place}
 
 -- one more number from 0 up
 pub counted_more : (n : ℕ) → map pos (range_with_len 0 (n + 1)) ≡ map pos (range_with_len 0 n) ++ pos n ∷ []
@@ -36,14 +34,6 @@ added_more xs ys i h k = rw add-one (added_suc xs ys i h k)
 -- the pieces of one more item
 pub pieces_more : {X : Type 0} (f : X → List ℕ) (xs : List X) (i : ℕ) (d : X) → i < length xs → flat_map f (take (i + 1) xs) ≡ flat_map f (take i xs) ++ f (get_or xs i d)
 pieces_more f xs i d h = ap (flat_map f) (take_more xs i d h) ∙ flat_map-append f (take i xs) _ ∙ ap (λ r. flat_map f (take i xs) ++ r) (append-nil _)
-
--- the place behind one more byte
-place_push : (p : Place) (bs : List ℕ) (b : ℕ) → place_behind p (bs ++ b ∷ []) ≡ beyond (place_behind p bs) b
-place_push p [] b = refl
-place_push p (x ∷ xs) b = place_push (beyond p x) xs b
-
-pub place_more : (p : Place) (bs : List ℕ) (i : ℕ) → i < length bs → place_behind p (take (i + 1) bs) ≡ beyond (place_behind p (take i bs)) (get_or bs i 0)
-place_more p bs i h = ap (place_behind p) (take_more bs i 0 h) ∙ place_push p (take i bs) (get_or bs i 0)
 
 -- a blank and a number behind what was written
 pub grown : (start front text pushed new digits : List ℕ) → text ≡ start ++ front → pushed ≡ text ++ 32 ∷ [] → new ≡ pushed ++ digits → new ≡ start ++ (front ++ 32 ∷ digits)

@@ -1,13 +1,13 @@
 -- From the bytes that were taken of a script to the whole script.
-use Rattle.std.proofs.Common.{◌≡◌, ℕ, ◌+◌, ◌<◌, ◌≤◌, ℤ, List, [], ◌++◌, Option, Some, None, length, take, refl, ap, sym, ◌∙◌, subst, arith, append-nil, length-append, nat_le, ◌⊎◌, inl, inr, true, false}
+use Rattle.std.proofs.Common.{◌≡◌, ℕ, ◌+◌, ◌<◌, ◌≤◌, ℤ, List, [], ◌++◌, Option, Some, None, length, refl, ap, sym, ◌∙◌, subst, arith, append-nil, length-append, nat_le, true, false}
 use Rattle.std.proofs.lemmas.List.{take-append-le}
 use Rattle.std.proofs.lemmas.Bool.{leb-true, leb-false}
 use Rattle.std.specs.Io.KnownBytes.{Appends, Consumes, IsAtEnd}
 use Rattle.arr_io.specs.Taken.{AppendsPart}
 use Rattle.arr_run.specs.declared.words.Command.{Command}
 use Rattle.arr_run.specs.declared.words.Command.TheVariants.{Run}
-use Rattle.arr_run.specs.Answers.{RunAnswers, Refuses, IsAccepted, Accepts, Answered, CutShort, IsCutShort, most_bytes, too_long, printed, refused, length_, grammar, form, front, start}
-use Rattle.arr_run.specs.Texts.{refusal_text, usage_text}
+use Rattle.arr_run.specs.Answers.{RunAnswers, Refuses, IsAccepted, Accepts, Answered, CutShort, most_bytes, too_long, printed, refused, length_, grammar, form, front, start}
+use Rattle.arr_run.specs.Texts.{usage_text}
 use Rattle.arr_syntax.specs.declared.refusal.Refusal.{Refusal}
 use Rattle.arr_syntax.specs.declared.refusal.Kind.TheVariants.{TooLong}
 use Rattle.arr_syntax.specs.Tokens.{place_behind}

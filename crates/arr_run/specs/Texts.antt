@@ -1,8 +1,7 @@
 -- What the program writes.
-use Rattle.std.specs.Prelude.{ℕ, ◌+◌, ℤ, List, [], ◌∷◌, ◌++◌, length, codes, decimal, ◌==◌, if◌then◌else◌}
+use Rattle.std.specs.Prelude.{ℕ, ℤ, List, [], ◌∷◌, ◌++◌, length, codes, decimal}
 use Rattle.std.specs.Fmt.{signed_decimal}
 use Rattle.std.specs.List.{flat_map}
-use Rattle.arr_syntax.specs.declared.refusal.Place.{Place}
 use Rattle.arr_syntax.specs.declared.refusal.Kind.{Kind}
 use Rattle.arr_syntax.specs.declared.refusal.Kind.TheVariants.{TooLong, BadByte, NumberTooWide, NameTooLong, StatementTooLong, TooDeep, Unexpected, UnknownName, TypeMismatch, LiteralRange, RankRange, EmptyArray, TooManyElements, TooMuchLive, ZeroStep, SliceRange, ShapeMismatch, AxisRange, CountMismatch, NotContiguous, OutsideBase, OutputRepeats, TooManyNames}
 use Rattle.arr_syntax.specs.declared.refusal.Refusal.{Refusal}

@@ -5,14 +5,12 @@ ghost use Rattle.arr_io.specs.Causes.{Rose};
 ghost use Rattle.arr_run.specs.Answers.{Accepts, Answered, CutShort, IsAccepted, IsReadOut, RunAnswers};
 ghost use Rattle.arr_run.specs.Texts.{refusal_text};
 ghost use Rattle.arr_run.specs.Words.{command_of};
-ghost use Rattle.arr_run.specs.Answers.{start};
-ghost use Rattle.arr_syntax.specs.Tokens.{place_behind, beyond};
 
 use crate::eager::printed;
 use crate::texts::{USAGE, refusal_text};
 use crate::words::{Command, named_command};
 use arr_io::{NoMemory, ReadFailure, Sink, Source, WriteFault, read_up_to, write_all};
-use arr_syntax::{Kind, ParseFault, Place, Refusal, parse};
+use arr_syntax::{Kind, ParseFault, Place, Refusal, parse, place_behind};
 use std::alloc::Global;
 
 /// The most bytes that a script may have.
@@ -122,7 +120,7 @@ fn answer_to(alloc: Global, bytes: &[u8]) -> Result<Answer, NoMemory>
 {
     if bytes.len() > MOST_BYTES {
         let (front, _) = bytes.split_at(MOST_BYTES);
-        let at = place_behind(front);
+        let at = place_behind(Place { line: 1, column: 1 }, front);
         return refusal(
             alloc,
             Refusal {
@@ -157,37 +155,4 @@ fn refusal(alloc: Global, cause: Refusal) -> Result<Answer, NoMemory>
         status: REFUSED,
         text,
     })
-}
-
-/// The place behind a byte.
-fn beyond(at: Place, byte: u8) -> Place
-    requires line { at.line + 1 < 2 ^ 32 }
-    requires column { at.column + 1 < 2 ^ 32 }
-    ensures place { result ≡ beyond at byte }
-    ensures line { result.line ≤ at.line + 1 }
-    ensures column { result.column ≤ at.column + 1 }
-{
-    if byte == b'\n' {
-        Place {
-            line: at.line + 1,
-            column: 1,
-        }
-    } else {
-        Place {
-            line: at.line,
-            column: at.column + 1,
-        }
-    }
-}
-
-/// The place of the byte that follows these.
-fn place_behind(bytes: &[u8]) -> Place
-    requires { length bytes.now ≤ 1048576 }
-    ensures { result ≡ place_behind start bytes.now }
-{
-    let mut at = Place { line: 1, column: 1 };
-    for byte in bytes {
-        at = beyond(at, *byte);
-    }
-    at
 }

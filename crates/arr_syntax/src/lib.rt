@@ -34,4 +34,5 @@ mod tree;
 pub use lists::{Name, Slices};
 pub use parser::parse;
 pub use refusal::{Kind, ParseFault, Place, Refusal};
+pub use text::place_behind;
 pub use tree::{Code16, Cut, Expr, ExprForm, Form, Lengths, Script, Statement, Steps, Type4, Word};

@@ -298,8 +298,9 @@ fn beyond(at: Place, byte: u8) -> Place
     }
 }
 
-/// The place behind the bytes.
-fn place_behind(at: Place, bytes: &[u8]) -> Place
+/// The place of the byte that follows these, where the first of them stands at `at`. Lines and columns count from 1, a column
+/// in bytes, and a line feed ends its line (docs/LANGUAGE.md, "Tokens").
+pub fn place_behind(at: Place, bytes: &[u8]) -> Place
     requires { (at.line + length bytes.now < 2 ^ 32) × (at.column + length bytes.now < 2 ^ 32) }
     ensures what { result ≡ place_behind at bytes.now }
     ensures line { result.line ≤ at.line + length bytes.now }

@@ -1,4 +1,4 @@
-use Rattle.std.proofs.Common.{◌≡◌, ◌∙◌, ◌<◌, ap, sym, arith, subst, rules, ◌++◌, ◌∷◌, []}
+use Rattle.std.proofs.Common.{◌∙◌, ◌<◌, sym, arith, subst, rules, ◌++◌, ◌∷◌, []}
 use Rattle.arr_overlap.specs.Marks.{Marks, most}
 use Rattle.arr_overlap.proofs.Marking.{at_end, below, marks_more, marks_none, next_one, one_more}
 use Rattle.arr_overlap.proofs.meeting.marked.Goals as goal

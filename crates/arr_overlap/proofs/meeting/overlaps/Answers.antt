@@ -1,5 +1,4 @@
-use Rattle.std.proofs.Common.{◌≡◌, ◌∙◌, ◌<◌, ◌++◌, ap, sym, arith, subst, rules, refl, true, false}
-use Rattle.std.specs.Prelude.{◌&&◌, ◌==◌}
+use Rattle.std.proofs.Common.{◌≡◌, ◌∙◌, ◌<◌, ap, sym, arith, rules, refl, true, false}
 use Rattle.arr_view.specs.Views.{elements, has, share}
 use Rattle.arr_overlap.specs.Marks.{most}
 use Rattle.arr_overlap.proofs.Marking.{at_end, below, meet_on, next_one, one_more, shared, unshared}

@@ -1,4 +1,4 @@
-use Rattle.std.proofs.Common.{◌≡◌, ◌∙◌, ◌<◌, ◌++◌, ◌∷◌, [], ap, sym, arith, subst, rules, refl, true, false}
+use Rattle.std.proofs.Common.{◌≡◌, ◌∙◌, ◌<◌, ◌++◌, ◌∷◌, [], ap, sym, arith, subst, rules, refl, true}
 use Rattle.arr_view.specs.Views.{elements, has, repeated}
 use Rattle.arr_overlap.specs.Marks.{Marks, most}
 use Rattle.arr_overlap.proofs.Marking.{at_end, below, found_again, fresh_more, lone, marks_more, marks_none, next_one, one_more}

@@ -1,4 +1,4 @@
-use Rattle.std.proofs.Common.{◌≡◌, ◌∙◌, ◌++◌, ◌∷◌, [], ap₂, sym, arith, rules, pos, to_z, w64, FitsSigned, slice_index_or}
+use Rattle.std.proofs.Common.{◌∙◌, ◌++◌, ◌∷◌, [], ap₂, sym, arith, rules, pos, w64, FitsSigned, slice_index_or}
 use Rattle.std.proofs.lemmas.Int.{wrapping_add_is}
 use Rattle.arr_run.proofs.Lists.{added_more, wrapped}
 use Rattle.arr_run.proofs.eager.sums.Goals as goal

@@ -9,7 +9,7 @@ use Rattle.arr_run.proofs.program.answer_to.Goals as goal
 pub returns-then-bytes-gt-MOST_BYTES-clause-answer : goal.returns-then-bytes-gt-MOST_BYTES-clause-answer
 returns-then-bytes-gt-MOST_BYTES-clause-answer c =
     hands_refusal c.args.bytes.now _ c.refusal.result
-    (refuses_length c.args.bytes.now c.place_behind-at.result (c.place_behind-at.ensures ∙ ap (place_behind start) c.split_at.ensures.front) (omega arith)) c.refusal.ensures
+    (refuses_length c.args.bytes.now c.place_behind-at.result (c.place_behind-at.ensures.what ∙ ap (place_behind start) c.split_at.ensures.front) (omega arith)) c.refusal.ensures
 
 pub returns-in-Err-Refused-clause-answer : goal.returns-in-Err-Refused-clause-answer
 returns-in-Err-Refused-clause-answer c =

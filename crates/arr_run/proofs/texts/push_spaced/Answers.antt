@@ -1,4 +1,4 @@
-use Rattle.std.proofs.Common.{◌≡◌, ◌∙◌, ◌++◌, ◌∷◌, ℤ, pos, ap, sym, arith, rules, to_z, of_z, w64, FitsSigned, slice_index_or}
+use Rattle.std.proofs.Common.{◌∙◌, ◌++◌, ◌∷◌, ℤ, pos, ap, sym, arith, rules, w64, FitsSigned, slice_index_or}
 use Rattle.std.proofs.lemmas.Int.{to_z-of_z}
 use Rattle.std.specs.Fmt.{signed_decimal}
 use Rattle.arr_run.proofs.Lists.{grown, pieces_more, spaced_done}

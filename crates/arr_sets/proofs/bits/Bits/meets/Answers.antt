@@ -1,4 +1,4 @@
-use Rattle.std.proofs.Common.{◌≡◌, ◌∙◌, ap, ap₂, sym, arith, rules, length, ℕ, get_or, ◌<◌, ◌^◌}
+use Rattle.std.proofs.Common.{◌≡◌, ◌∙◌, ap, ap₂, sym, arith, rules, length, get_or, ◌<◌, ◌^◌}
 use Rattle.std.specs.Prelude.{bit_and}
 use Rattle.std.specs.Int.Bits.{and_lt}
 use Rattle.arr_sets.proofs.Members.{length-members, meets_at, meets_none, rows_meet}

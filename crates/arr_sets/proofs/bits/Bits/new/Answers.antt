@@ -1,6 +1,6 @@
 use Rattle.std.proofs.Common.{◌≡◌, ◌∙◌, ap, rules, replicate, ◌+◌, ◌/◌}
 use Rattle.arr_sets.specs.Bits.{members}
-use Rattle.arr_sets.proofs.Members.{none_members, none_set}
+use Rattle.arr_sets.proofs.Members.{none_members}
 use Rattle.arr_sets.proofs.bits.Bits.new.Goals as goal
 
 pub returns : goal.returns
