@@ -3,3 +3,5 @@ pub mod Products
 pub mod Powers
 pub mod Words
 pub mod Reading
+pub mod Unique
+pub mod Folds

@@ -1,3 +1,4 @@
 pub mod Numbers
 pub mod Kinds
 pub mod Types
+pub mod Laws

@@ -9,13 +9,16 @@
 //!
 //! The definitions: `specs/Numbers.antt` has the types, the table of values (`whole`), what wrapping
 //! means (`wrap`), the value of an opcode (`value`) and the starts of folds (`fold_start`);
-//! `specs/Kinds.antt` sorts the opcodes. `docs/LANGUAGE.md` states the same rules in words.
+//! `specs/Kinds.antt` sorts the opcodes, `specs/Types.antt` says which types each has, and
+//! `specs/Laws.antt` states what holds of wrapping and of folds. `docs/LANGUAGE.md` states the same rules in words.
 #![tactic(auto)]
 
 mod code;
 mod elem;
+mod laws;
 mod value;
 
 pub use code::Code;
 pub use elem::Elem;
+pub use laws::{fold_laws, wrapping_law};
 pub use value::{binary, fold_start, unary};
