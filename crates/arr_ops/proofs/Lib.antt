@@ -12,3 +12,5 @@ pub mod Picked
 pub mod Alike
 pub mod Spots
 pub mod Independent
+pub mod Parts
+pub mod Merged

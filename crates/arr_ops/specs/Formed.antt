@@ -12,7 +12,7 @@ use Rattle.arr_ops.specs.declared.op.Op.{Op}
 use Rattle.arr_ops.specs.declared.op.Operand.{Operand}
 use Rattle.arr_ops.specs.declared.op.Operand.TheVariants.{Array, Number}
 use Rattle.arr_num.specs.declared.code.Code.{Code}
-use Rattle.arr_num.specs.declared.code.Code.TheVariants.{Identity, Power, Equal, NotEqual, Less, LessEqual, Greater, GreaterEqual}
+use Rattle.arr_num.specs.declared.code.Code.TheVariants.{Sync, Identity, Power, Equal, NotEqual, Less, LessEqual, Greater, GreaterEqual}
 use Rattle.arr_num.specs.Numbers.{in_type}
 
 -- ---- one operation
@@ -96,6 +96,26 @@ makes_whole op = not op.makes || (is_some op.out && list_all (λ (o : Strided). 
 
 abbrev pub well_formed : Op → Bool
 well_formed op = kind_kept op && (list_all is_view (views op) && (writes_once op && makes_whole op))
+
+-- the same with a slot, if it is a SYNC
+abbrev pub slot_for : Code → Option ℕ → Option ℕ
+slot_for Sync slot = Some 1
+slot_for _ slot = slot
+
+abbrev pub with_slot : Op → Op
+with_slot op =
+    record {
+      code = op.code;
+      to = op.to;
+      from = op.from;
+      out = op.out;
+      first = op.first;
+      second = op.second;
+      axis = op.axis;
+      slot = slot_for op.code op.slot;
+      frees = op.frees;
+      makes = op.makes;
+    }
 
 -- ---- a list
 

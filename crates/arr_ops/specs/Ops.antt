@@ -1,8 +1,8 @@
 -- Which views an operation has, and when two operations fuse or depend on one another.
-use Rattle.std.specs.Prelude.{ℕ, List, [], ◌∷◌, ◌++◌, Bool, true, false, ◌||◌, ◌&&◌, not, ◌==◌, map, Option, Some, cond}
+use Rattle.std.specs.Prelude.{ℕ, List, [], ◌∷◌, ◌++◌, Bool, true, false, ◌||◌, ◌&&◌, not, ◌==◌, map, Option, Some, cond, None}
 use Rattle.std.specs.List.{list_any}
 use Rattle.std.specs.Option.{option_to_list}
-use Rattle.arr_num.specs.Kinds.{is_reduction, walks_input}
+use Rattle.arr_num.specs.Kinds.{Kind, Ending, Printing, is_reduction, walks_input}
 use Rattle.arr_view.specs.Strided.{Strided}
 use Rattle.arr_view.specs.Views.{overlap, identical, same_lists, has}
 use Rattle.arr_ops.specs.declared.op.Op.{Op}
@@ -12,6 +12,10 @@ use Rattle.arr_ops.specs.declared.op.Operand.TheVariants.{Array}
 abbrev pub view_of : Option Operand → List Strided
 view_of (Some (Array v)) = v ∷ []
 view_of _ = []
+
+abbrev pub array_of : Option Operand → Option Strided
+array_of (Some (Array v)) = Some v
+array_of _ = None
 
 abbrev pub outputs : Op → List Strided
 outputs op = option_to_list op.out
@@ -66,6 +70,17 @@ disturbs f g = some_pair overlap (outputs f) (views g) || list_any (has (named g
 -- dependent, the one that stands first being the earlier
 abbrev pub dep : Op → Op → Bool
 dep f g = disturbs f g || disturbs g f
+
+-- FREE walks nothing
+abbrev pub ends : Kind → Bool
+ends Ending = true
+ends _ = false
+
+-- SYNC and FREE write nothing
+abbrev pub keeps_bases : Kind → Bool
+keeps_bases Ending = true
+keeps_bases Printing = true
+keeps_bases _ = false
 
 -- ---- creators and FREEs of a list
 

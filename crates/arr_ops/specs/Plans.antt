@@ -43,3 +43,9 @@ abbrev pub is_legal : List Op → List (List ℕ) → Bool
 is_legal list plan =
     list_all (λ block. not_empty block && list_all (λ i. nat_lt 0 i && nat_le i (length list)) block) plan
     && (list_all (λ (x : ℕ × Op). holders plan x.0 == 1) (numbered list) && all_pairs (pair_legal plan) (numbered list))
+
+-- each number above the one before it
+abbrev pub ascends : List ℕ → Bool
+ascends [] = true
+ascends (i ∷ []) = true
+ascends (i ∷ j ∷ is) = nat_lt i j && ascends (j ∷ is)

@@ -1,5 +1,5 @@
 //! Laws of formed lists. Each function does nothing: its contract is the law.
-ghost use Rattle.arr_ops.specs.Laws.{IndependentCommute, NumbersStayTyped, PlansKeepMemory};
+ghost use Rattle.arr_ops.specs.Laws.{IndependentCommute, MergingSaves, NumbersStayTyped, PlansKeepMemory};
 
 /// Every legal plan of a formed list, block after block in list order, leaves what the list leaves.
 pub fn plans_keep_memory()
@@ -14,4 +14,9 @@ pub fn independent_operations_commute()
 /// What an operation of a formed list reads is of its type, from every memory that fits the list.
 pub fn numbers_stay_typed()
     ensures { NumbersStayTyped }
+{}
+
+/// One block costs at most what two blocks cost that have its operations between them.
+pub fn merging_saves()
+    ensures { MergingSaves }
 {}
