@@ -1,1 +1,4 @@
 pub mod Shapes
+pub mod Made
+pub mod Indexes
+pub mod Spreads
