@@ -6,3 +6,4 @@ pub mod Cuts
 pub mod Joins
 pub mod CutViews
 pub mod Wholes
+pub mod Consecutive

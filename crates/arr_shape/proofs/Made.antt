@@ -4,7 +4,7 @@ use Rattle.std.specs.Prelude.{nat_le, ◌==◌, Some, None, Result, Ok, Err, ok_
 use Rattle.std.specs.List.{list_all}
 use Rattle.std.proofs.lemmas.Bool.{and_parts, and_from, le-leb}
 use Rattle.arr_view.specs.Strided.{Strided}
-use Rattle.arr_view.specs.Views.{has_rank, positions, places, is_place, is_view, is_zero, strides_kept, kept_strides, view_from}
+use Rattle.arr_view.specs.Views.{has_rank, positions, places, is_place, is_view, is_zero, strides_kept, kept_strides, view_from, checked}
 use Rattle.arr_view.proofs.Checks.{lawful}
 
 pub record Sound (start : ℕ) (ns : List ℕ) (ss : List ℤ) : Type 0 where
@@ -33,12 +33,15 @@ kept_same (n ∷ ns) (s ∷ ss) e =
     let both = and_parts (not (n == 1) || is_zero s) (strides_kept ns ss) e in
     ap₂ (λ x xs. x ∷ xs) (stays_same (n == 1) s both.0) (kept_same ns ss both.1)
 
+pub is_made : (base start : ℕ) (ns : List ℕ) (ss : List ℤ) → Sound start ns ss → is_view (strided_of base start ns ss) ≡ true
+is_made base start ns ss h =
+    and_from (has_rank ns) _ h.rank (and_from (list_all (nat_le 1) ns) _ h.lengths (and_from (strides_kept ns ss) _ h.kept (and_from (nat_le (positions ns) 1048576) _ (le-leb (positions ns) 1048576 h.size) h.inside)))
+
+pub checked_made : (base start : ℕ) (ns : List ℕ) (ss : List ℤ) → Sound start ns ss → checked (strided_of base start ns ss) ≡ Some (strided_of base start ns ss)
+checked_made base start ns ss h = ap (λ b. cond b (Some (strided_of base start ns ss)) None) (is_made base start ns ss h)
+
 pub made : (base start : ℕ) (ns : List ℕ) (ss : List ℤ) → Sound start ns ss → view_from base start ns ss ≡ Some (strided_of base start ns ss)
-made base start ns ss h =
-    let kept = kept_same ns ss h.kept in
-    let lawful : is_view (strided_of base start ns ss) ≡ true =
-    and_from (has_rank ns) _ h.rank (and_from (list_all (nat_le 1) ns) _ h.lengths (and_from (strides_kept ns ss) _ h.kept (and_from (nat_le (positions ns) 1048576) _ (le-leb (positions ns) 1048576 h.size) h.inside))) in
-    ap (λ rs. cond (is_view (strided_of base start ns rs)) (Some (strided_of base start ns rs)) None) kept ∙ ap (λ b. cond b (Some (strided_of base start ns ss)) None) lawful
+made base start ns ss h = ap (λ rs. checked (strided_of base start ns rs)) (kept_same ns ss h.kept) ∙ checked_made base start ns ss h
 
 pub sound_view : (v : Strided) → is_view v ≡ true → Sound v.start v.lengths v.strides
 sound_view v e =

@@ -1,9 +1,11 @@
 -- What becomes of views.
-use Rattle.std.specs.Prelude.{ℕ, ℤ, pos, ◌+ℤ◌, ◌*ℤ◌, ◌-◌, List, [], ◌∷◌, ◌++◌, Bool, true, false, ◌||◌, ◌&&◌, ◌==◌, nat_lt, nat_le, if◌then◌else◌, length, replicate, reverse, Result, Ok, Err}
+use Rattle.std.specs.Prelude.{ℕ, ℤ, pos, ◌+ℤ◌, ◌*ℤ◌, ◌-◌, List, [], ◌∷◌, ◌++◌, Bool, true, false, ◌||◌, ◌&&◌, ◌==◌, not, nat_lt, nat_le, if◌then◌else◌, length, replicate, reverse, Result, Ok, Err}
+use Rattle.std.specs.List.{range_with_len}
 use Rattle.arr_view.specs.Strided.{Strided}
+use Rattle.arr_view.specs.Views.{elements, positions, same_lists, whole_strides}
 use Rattle.arr_shape.specs.Shapes.{padded}
 use Rattle.arr_shape.specs.declared.fault.ShapeFault.{ShapeFault}
-use Rattle.arr_shape.specs.declared.fault.ShapeFault.TheVariants.{ShapeMismatch}
+use Rattle.arr_shape.specs.declared.fault.ShapeFault.TheVariants.{ShapeMismatch, NotContiguous, CountMismatch}
 
 -- ---- one element
 
@@ -50,3 +52,16 @@ spread v shape =
 
 abbrev pub transpose : Strided → Strided
 transpose v = record { base = v.base; start = v.start; lengths = reverse v.lengths; strides = reverse v.strides }
+
+-- ---- reshaping
+
+-- its elements are consecutive and rising, in row-major order
+abbrev pub is_consecutive : Strided → Bool
+is_consecutive v = same_lists (elements v) (range_with_len v.start (positions v.lengths))
+
+-- the same elements in another shape
+abbrev pub reshape : Strided → List ℕ → Result Strided ShapeFault
+reshape v shape =
+    if not (positions v.lengths == positions shape) then Err CountMismatch
+    else (if not (is_consecutive v) then Err NotContiguous
+    else Ok (record { base = v.base; start = v.start; lengths = shape; strides = whole_strides shape }))

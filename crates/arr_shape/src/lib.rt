@@ -11,4 +11,4 @@ pub use bounds::Slice;
 pub use fault::ShapeFault;
 pub use lengths::{broadcast, checked_axis, checked_shape, reduced};
 pub use slices::slice;
-pub use views::{spread, transpose};
+pub use views::{reshape, spread, transpose};

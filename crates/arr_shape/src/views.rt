@@ -1,7 +1,9 @@
 //! Views that are spread, turned round or reshaped.
-ghost use Rattle.std.specs.Prelude.{◌≡◌, ◌≤◌, IsTrue, length, reverse};
+ghost use Rattle.std.specs.Prelude.{◌≡◌, ◌≤◌, IfOk, IsTrue, length, reverse};
 ghost use Rattle.arr_shape.specs.Shapes.{is_shape};
-ghost use Rattle.arr_shape.specs.Views.{spread, transpose};
+ghost use Rattle.arr_shape.specs.Views.{spread, transpose, is_consecutive, reshape};
+ghost use Rattle.arr_view.specs.Strided.{Strided};
+ghost use Rattle.arr_view.specs.Views.{elements};
 
 use crate::ShapeFault;
 use crate::lengths::from_last;
@@ -52,4 +54,34 @@ pub fn transpose(view: &View) -> View
     let shape = reversed(view.shape());
     let strides = reversed(view.strides());
     View::new(view.base(), view.start(), shape.as_slice(), strides.as_slice()).unwrap()
+}
+
+/// Whether the elements are consecutive and rising.
+fn is_consecutive(view: &View) -> bool
+    ensures { result ≡ is_consecutive view.now }
+{
+    let start = view.start();
+    for position in 0..view.positions() {
+        if view.element(position) != start + position {
+            return false;
+        }
+    }
+    true
+}
+
+/// The same elements in another shape. Refusals, in this order: `CountMismatch` exactly where the shape has another number of
+/// positions than the view, `NotContiguous` exactly where the view's elements are not consecutive and rising in row-major order.
+pub fn reshape(view: &View, shape: &[u32]) -> Result<View, ShapeFault>
+    requires { IsTrue (is_shape shape.now) }
+    ensures view { result ≡ reshape view.now shape.now }
+    ensures elements { IfOk result (λ (reshaped : Strided). elements reshaped ≡ elements view.now) }
+{
+    let whole = View::whole(view.base(), shape).unwrap();
+    if whole.positions() != view.positions() {
+        return Err(ShapeFault::CountMismatch);
+    }
+    if !is_consecutive(view) {
+        return Err(ShapeFault::NotContiguous);
+    }
+    View::new(view.base(), view.start(), shape, whole.strides()).ok_or(ShapeFault::NotContiguous)
 }
