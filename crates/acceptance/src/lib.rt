@@ -4,3 +4,5 @@
 
 #[cfg(test)]
 mod numbers;
+#[cfg(test)]
+mod shapes;

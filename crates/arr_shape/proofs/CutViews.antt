@@ -1,15 +1,14 @@
 -- The view of the indices that cuts take.
-use Rattle.std.proofs.Common.{◌≡◌, ◌⊎◌, inl, inr, ℕ, zero, suc, ◌+◌, ◌*◌, ◌<◌, ◌≤◌, ℤ, pos, negsuc, ◌+ℤ◌, ◌-ℤ◌, ◌*ℤ◌, ◌≤ℤ◌, ◌<ℤ◌, List, [], ◌∷◌, ◌++◌, Bool, true, false, not, ◌||◌, ◌&&◌, length, get_or, drop, take, map, refl, ap, ap₂, sym, ◌∙◌, subst, arith, leb-true}
+use Rattle.std.proofs.Common.{◌≡◌, ℕ, zero, suc, ◌+◌, ◌*◌, ◌<◌, ◌≤◌, ℤ, pos, negsuc, ◌+ℤ◌, ◌-ℤ◌, ◌*ℤ◌, ◌≤ℤ◌, ◌<ℤ◌, List, [], ◌∷◌, Bool, true, false, not, ◌||◌, ◌&&◌, length, get_or, drop, map, refl, ap, ap₂, sym, ◌∙◌, subst, arith}
 use Rattle.std.specs.Prelude.{nat_le, ◌==◌}
 use Rattle.std.specs.List.{list_all}
 use Rattle.std.proofs.Math.Nat.{mul-le-mul_left, mul-le-mul_right}
 use lib.IntN.{zero-*ℤ, suc_ℤ-*ℤ, pred_ℤ-*ℤ, suc_ℤ-+ℤ, pred_ℤ-+ℤ}
 use Rattle.std.proofs.lemmas.Int.{ints}
-use Rattle.std.proofs.lemmas.Bool.{and_parts, and_from, le-leb, eqb-true, eqb-false}
+use Rattle.std.proofs.lemmas.Bool.{and_from, le-leb, eqb-true, eqb-false}
 use Rattle.std.proofs.lemmas.List.{length-map, drop_more}
-use Rattle.arr_view.specs.Views.{places, positions, has_rank, is_place, is_zero, strides_kept, to_place}
+use Rattle.arr_view.specs.Views.{places, positions, is_place, is_zero, strides_kept, to_place}
 use Rattle.arr_view.proofs.Places.{Inside, steps, steps_is, in_steps, out_steps, begins_inside, place_low, place_high}
-use Rattle.arr_view.proofs.Counting.{some_position}
 use Rattle.arr_shape.specs.declared.bounds.Cut.{Cut}
 use Rattle.arr_shape.specs.Views.{place_at}
 use Rattle.arr_shape.specs.Slices.{scaled, IsCut, AreCuts}

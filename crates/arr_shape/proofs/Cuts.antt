@@ -1,13 +1,12 @@
 -- How many indices a slice takes, and where they lie.
-use Rattle.std.proofs.Common.{◌≡◌, ◌⊎◌, inl, inr, ℕ, zero, suc, ◌+◌, ◌-◌, ◌*◌, ◌/◌, ◌<◌, ◌≤◌, ℤ, pos, negsuc, ◌+ℤ◌, ◌*ℤ◌, ◌≤ℤ◌, List, [], ◌∷◌, Bool, true, false, cond, ◌||◌, length, refl, ap, ap₂, sym, ◌∙◌, subst, arith, unsigned_abs}
-use Rattle.std.specs.Prelude.{nat_le, nat_lt, ◌==◌, Option, Some, None, unwrap_or, Result, Ok, Err}
+use Rattle.std.proofs.Common.{◌≡◌, ◌⊎◌, inl, inr, ℕ, zero, suc, ◌+◌, ◌-◌, ◌*◌, ◌/◌, ◌<◌, ◌≤◌, ℤ, pos, negsuc, ◌+ℤ◌, ◌*ℤ◌, List, [], ◌∷◌, Bool, true, false, cond, ◌||◌, length, refl, ap, ap₂, sym, ◌∙◌, arith}
+use Rattle.std.specs.Prelude.{nat_le, nat_lt, ◌==◌, Option, Some, None, unwrap_or, Ok, Err}
 use Rattle.std.proofs.Math.Nat.{add-div_right, div-eq_of_lt, div-mul-le_self, mul-le-mul_right, mul-le-mul_left}
 use Rattle.std.proofs.Math.IntN.{zero-*ℤ, pos-*ℤ-pos, pos-*ℤ-negsuc}
 use Rattle.std.proofs.Common.{neg_ℤ}
 use Rattle.std.proofs.lemmas.Int.{ints}
 use Rattle.std.proofs.lemmas.Bool.{le-leb, lt-ltb, le-ltb, lt-leb, leb-true, ltb-true, ltb-false, eqb-true}
 use Rattle.arr_shape.specs.declared.bounds.Cut.{Cut}
-use Rattle.arr_shape.specs.declared.fault.ShapeFault.{ShapeFault}
 use Rattle.arr_shape.specs.declared.fault.ShapeFault.TheVariants.{SliceRange}
 use Rattle.arr_shape.specs.Slices.{rising, falling, cut_of, cut_up, cut_down, floor_of, lies_above, IsCut}
 
@@ -71,9 +70,11 @@ made_up n start stop d h low high l =
     not_above : (o : Option ℕ) → unwrap_or o 0 ≤ n → lies_above n o ≡ false
     not_above None h = refl
     not_above (Some i) h = le-ltb n i h
+
     stop_inside : (o : Option ℕ) → unwrap_or o n ≤ n → lies_above n o ≡ false
     stop_inside None h = refl
     stop_inside (Some i) h = le-ltb n i h
+
     from : (m : ℕ) → n ≡ m → cut_of (rising m (unwrap_or start 0) (unwrap_or stop n) d) (pos d) ≡ Ok (stepped (unwrap_or start 0) ((unwrap_or stop n - 1 - unwrap_or start 0) / d) (pos d))
     from zero e = absurd (omega arith)
     from (suc m) e =
@@ -89,6 +90,7 @@ made_down n start stop k some low high l =
     not_above : (o : Option ℕ) → unwrap_or o (n - 1) ≤ n - 1 → lies_above (n - 1) o ≡ false
     not_above None h = refl
     not_above (Some i) h = le-ltb (n - 1) i h
+
     from : (m : ℕ) → n ≡ m
         → cut_of (falling m (unwrap_or start (n - 1)) (floor_of stop) (suc k)) (negsuc k) ≡ Ok (stepped (unwrap_or start (n - 1)) ((unwrap_or start (n - 1) - floor_of stop) / suc k) (negsuc k))
     from zero e = absurd (omega arith)

@@ -1,5 +1,5 @@
 -- The elements of a view by their indices.
-use Rattle.std.proofs.Common.{◌≡◌, ℕ, zero, suc, ◌*◌, ◌<◌, ◌≤◌, ℤ, pos, ◌+ℤ◌, ◌*ℤ◌, List, [], ◌∷◌, ◌++◌, Bool, true, false, ◌&&◌, not, ◌||◌, length, refl, ap, ap₂, sym, ◌∙◌, subst, arith, reverse}
+use Rattle.std.proofs.Common.{◌≡◌, ℕ, suc, ◌*◌, ◌≤◌, ℤ, pos, ◌+ℤ◌, ◌*ℤ◌, List, [], ◌∷◌, ◌++◌, Bool, true, false, ◌&&◌, not, ◌||◌, length, refl, ap, ap₂, sym, ◌∙◌, subst, arith, reverse}
 use Rattle.std.specs.Prelude.{nat_le, nat_lt, ◌==◌}
 use Rattle.std.specs.List.{list_all}
 use Rattle.std.proofs.Math.Nat.{mul_assoc, mul_comm}
@@ -7,9 +7,8 @@ use Rattle.std.proofs.lemmas.Int.{ints}
 use Rattle.std.proofs.lemmas.Bool.{and_parts, and_from, ltb-true, lt-ltb}
 use Rattle.std.proofs.lemmas.List.{reverse-append, length-reverse, reverse-reverse}
 use Rattle.std.proofs.lemmas.List.Folds.{list_all-append}
-use Rattle.arr_view.specs.Strided.{Strided}
-use Rattle.arr_view.specs.Views.{places, is_place, positions, has_rank, strides_kept, is_zero}
-use Rattle.arr_view.proofs.Places.{Inside, steps, steps_is, in_steps, out_steps}
+use Rattle.arr_view.specs.Views.{places, is_place, positions, strides_kept, is_zero}
+use Rattle.arr_view.proofs.Places.{Inside, steps_is, in_steps, out_steps}
 use Rattle.arr_shape.specs.Views.{place_at, is_index}
 use Rattle.arr_shape.proofs.Made.{Sound}
 

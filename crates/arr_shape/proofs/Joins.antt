@@ -1,11 +1,11 @@
 -- The cuts of all dimensions, one after another.
-use Rattle.std.proofs.Common.{◌≡◌, ℕ, zero, suc, ◌+◌, ◌*◌, ◌<◌, ◌≤◌, List, [], ◌∷◌, ◌++◌, Bool, true, false, length, get_or, drop, take, refl, ap, ap₂, sym, ◌∙◌, arith, append_assoc}
+use Rattle.std.proofs.Common.{◌≡◌, ℕ, ◌+◌, ◌<◌, ◌≤◌, List, [], ◌∷◌, ◌++◌, length, get_or, drop, refl, ap, ap₂, sym, ◌∙◌, arith, append_assoc}
 use Rattle.std.specs.Prelude.{Result, Ok, Err}
-use Rattle.std.proofs.lemmas.List.{drop_more, drop_all, append-nil}
+use Rattle.std.proofs.lemmas.List.{drop_more, drop_all}
 use Rattle.arr_shape.specs.declared.bounds.Cut.{Cut}
 use Rattle.arr_shape.specs.declared.bounds.Slice.{Slice}
 use Rattle.arr_shape.specs.declared.fault.ShapeFault.{ShapeFault}
-use Rattle.arr_shape.specs.Slices.{cut, all_cuts, and_then, whole_cut, IsCut, AreCuts}
+use Rattle.arr_shape.specs.Slices.{cut, all_cuts, and_then, whole_cut, AreCuts}
 
 -- these cuts, and then those of the rest
 abbrev pub after : List Cut → Result (List Cut) ShapeFault → Result (List Cut) ShapeFault

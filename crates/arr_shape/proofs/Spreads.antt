@@ -6,7 +6,7 @@ use Rattle.std.proofs.lemmas.Bool.{and_parts, and_from, and_right, eqb-true, le-
 use Rattle.std.proofs.lemmas.List.{drop_more, length-replicate}
 use Rattle.arr_view.specs.Views.{places, is_place, is_zero, strides_kept}
 use Rattle.arr_view.proofs.Places.{Inside, steps, in_steps, out_steps}
-use Rattle.std.specs.Prelude.{Result, Ok, Err}
+use Rattle.std.specs.Prelude.{Ok, Err}
 use Rattle.std.specs.List.{list_all}
 use Rattle.arr_view.specs.Strided.{Strided}
 use Rattle.arr_shape.specs.declared.fault.ShapeFault.TheVariants.{ShapeMismatch}

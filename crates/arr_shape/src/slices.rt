@@ -138,7 +138,13 @@ fn cut_view(view: &View, cuts: &[Cut]) -> View
         lengths.push(cut.count);
         strides.push((i64::from(cut.step) * i64::from(stride)) as i32);
     }
-    View::new(view.base(), start as u32, lengths.as_slice(), strides.as_slice()).unwrap()
+    View::new(
+        view.base(),
+        start as u32,
+        lengths.as_slice(),
+        strides.as_slice(),
+    )
+    .unwrap()
 }
 
 /// The view of the indices that the slices take, of the first dimensions in turn; the other dimensions stay whole. Refusals, in this

@@ -31,8 +31,7 @@ pub fn spread(view: &View, shape: &[u32]) -> Result<View, ShapeFault>
             return Err(ShapeFault::ShapeMismatch);
         }
     }
-    View::new(view.base(), view.start(), shape, strides.as_slice())
-        .ok_or(ShapeFault::ShapeMismatch)
+    View::new(view.base(), view.start(), shape, strides.as_slice()).ok_or(ShapeFault::ShapeMismatch)
 }
 
 /// The same list, turned round.
@@ -53,7 +52,13 @@ pub fn transpose(view: &View) -> View
 {
     let shape = reversed(view.shape());
     let strides = reversed(view.strides());
-    View::new(view.base(), view.start(), shape.as_slice(), strides.as_slice()).unwrap()
+    View::new(
+        view.base(),
+        view.start(),
+        shape.as_slice(),
+        strides.as_slice(),
+    )
+    .unwrap()
 }
 
 /// Whether the elements are consecutive and rising.

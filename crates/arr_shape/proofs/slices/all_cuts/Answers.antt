@@ -1,18 +1,13 @@
-use Rattle.std.proofs.Common.{◌≡◌, ◌+◌, ◌<◌, ◌≤◌, ◌*◌, ℕ, zero, suc, pos, List, [], ◌∷◌, ◌++◌, Bool, true, false, cond, to_z, of_z, w32, length, get_or, drop, take, refl, ap, ap₂, sym, ◌∙◌, subst, arith, rules, length-append}
-use Rattle.std.specs.Prelude.{nat_le, ◌==◌, Ok, None, Result}
-use Rattle.std.specs.List.{list_all}
-use mir.Val.{SFits}
-use Rattle.std.proofs.lemmas.Int.{ints, to_z-of_z}
-use Rattle.std.proofs.lemmas.Bool.{and_parts, eq-eqb, ne_eqb, cond-true, cond-false}
+use Rattle.std.proofs.Common.{◌≡◌, ◌+◌, ◌<◌, ◌≤◌, ℕ, pos, List, [], ◌∷◌, ◌++◌, length, get_or, drop, take, ap, sym, ◌∙◌, subst, arith, length-append}
+use Rattle.std.specs.Prelude.{◌==◌, Ok, None, Result}
+use Rattle.std.proofs.lemmas.Bool.{eq-eqb, ne_eqb, cond-true, cond-false}
 use Rattle.std.proofs.lemmas.List.{take_more}
-use Rattle.std.proofs.Math.Nat.{mul-le-mul_left}
 use Rattle.arr_view.specs.Views.{positions}
-use Rattle.arr_view.proofs.Counting.{some_position}
 use Rattle.arr_view.proofs.Places.{length_at}
 use Rattle.arr_shape.specs.declared.bounds.Cut.{Cut}
 use Rattle.arr_shape.specs.declared.bounds.Slice.{Slice}
 use Rattle.arr_shape.specs.declared.fault.ShapeFault.{ShapeFault}
-use Rattle.arr_shape.specs.Slices.{cut, all_cuts, and_then, whole_cut, IsCut, AreCuts}
+use Rattle.arr_shape.specs.Slices.{all_cuts, and_then, whole_cut, IsCut, AreCuts}
 use Rattle.arr_shape.proofs.Joins.{after, after_more, cuts_more, cuts_whole, cuts_append}
 use Rattle.arr_shape.proofs.Wholes.{whole_lawful, length_few}
 use Rattle.arr_shape.proofs.slices.all_cuts.Goals as goal

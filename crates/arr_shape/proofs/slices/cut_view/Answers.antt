@@ -1,5 +1,5 @@
-use Rattle.std.proofs.Common.{◌≡◌, ◌+◌, ◌<◌, ◌≤◌, ℕ, zero, suc, ℤ, pos, negsuc, ◌+ℤ◌, ◌*ℤ◌, ◌≤ℤ◌, ◌<ℤ◌, List, [], ◌∷◌, ◌++◌, Bool, true, false, to_z, of_z, w32, w64, length, get_or, drop, map, refl, ap, ap₂, sym, ◌∙◌, subst, arith, rules, unsigned_abs, append_assoc, length-drop, ◌-◌}
-use Rattle.std.specs.Prelude.{IsSome, Some, nat_le}
+use Rattle.std.proofs.Common.{◌≡◌, ◌+◌, ◌<◌, ◌≤◌, ℕ, ℤ, pos, negsuc, ◌+ℤ◌, ◌*ℤ◌, ◌≤ℤ◌, ◌<ℤ◌, List, [], ◌∷◌, ◌++◌, true, to_z, of_z, w32, w64, length, get_or, drop, refl, ap, ap₂, sym, ◌∙◌, subst, arith, rules, unsigned_abs, append_assoc, length-drop, ◌-◌}
+use Rattle.std.specs.Prelude.{IsSome, Some}
 use mir.Val.{SFits}
 use Rattle.std.proofs.lemmas.Int.{ints, to_z-of_z}
 use Rattle.std.proofs.lemmas.List.{drop_all, append-nil}
@@ -10,7 +10,7 @@ use Rattle.arr_view.proofs.Places.{Inside, first_left, place_low, place_high, na
 use Rattle.arr_shape.specs.declared.bounds.Cut.{Cut}
 use Rattle.arr_shape.specs.Views.{place_at}
 use Rattle.arr_shape.specs.Slices.{scaled, cut_view, IsCut, AreCuts}
-use Rattle.arr_shape.proofs.Made.{Sound, made, sound_view, strided_of}
+use Rattle.arr_shape.proofs.Made.{Sound, made, sound_view}
 use Rattle.arr_shape.proofs.CutViews.{sound_cuts, begins, short, first_inside, cut_at, are_many, firsts, counts, inside_turn, scaled_turn, counts_turn, place_turn}
 use Rattle.arr_shape.proofs.slices.cut_view.Goals as goal
 

@@ -1,4 +1,4 @@
-use Rattle.std.proofs.Common.{◌≡◌, ◌++◌, pos, drop, take, length, map}
+use Rattle.std.proofs.Common.{◌≡◌, ◌++◌, pos, drop, length, map}
 use Rattle.arr_view.proofs.Places.{Inside}
 use Rattle.arr_shape.specs.declared.bounds.Cut.{Cut}
 use Rattle.arr_shape.specs.Slices.{scaled}

@@ -1,11 +1,11 @@
-use Rattle.std.proofs.Common.{◌≡◌, ◌<◌, ◌≤◌, ◌+◌, ◌-◌, ◌/◌, ◌≤ℤ◌, ℕ, suc, ℤ, pos, negsuc, cond, false, to_z, of_z, rules, refl, ap, ap₂, sym, ◌∙◌, subst, arith, unsigned_abs}
-use Rattle.std.specs.Prelude.{◌==◌, unwrap_or, Ok, IfOk}
+use Rattle.std.proofs.Common.{◌≡◌, ◌≤◌, ◌+◌, ◌-◌, ◌/◌, ◌≤ℤ◌, ℕ, suc, ℤ, pos, negsuc, cond, false, to_z, of_z, rules, ap, ap₂, sym, ◌∙◌, subst, arith, unsigned_abs}
+use Rattle.std.specs.Prelude.{◌==◌, unwrap_or, Ok}
 use mir.Val.{SFits}
 use Rattle.std.specs.Int.{w128}
 use Rattle.std.proofs.lemmas.Int.{ints, to_z-of_z}
 use Rattle.std.proofs.lemmas.Bool.{le-ltb}
 use Rattle.arr_shape.specs.declared.bounds.Cut.{Cut}
-use Rattle.arr_shape.specs.Slices.{IsCut, cut_down, floor_of, lies_above}
+use Rattle.arr_shape.specs.Slices.{IsCut, floor_of, lies_above}
 use Rattle.arr_shape.proofs.Cuts.{stepped, made_down, lawful_down}
 use Rattle.arr_shape.proofs.slices.falling.Goals as goal
 use Rattle.arr_shape.proofs.slices.falling.Goals.{in-Some-2, in-None}

@@ -1,10 +1,10 @@
 use Rattle.std.proofs.Common.{◌≡◌, ◌<◌, ◌≤◌, ◌+◌, ◌-◌, ◌/◌, ◌≤ℤ◌, ℕ, suc, ℤ, pos, negsuc, cond, to_z, of_z, rules, refl, ap, ap₂, sym, ◌∙◌, subst, arith, unsigned_abs}
-use Rattle.std.specs.Prelude.{◌==◌, unwrap_or, Ok, IfOk}
+use Rattle.std.specs.Prelude.{◌==◌, unwrap_or, Ok}
 use mir.Val.{SFits}
 use Rattle.std.specs.Int.{w128}
 use Rattle.std.proofs.lemmas.Int.{ints, to_z-of_z}
 use Rattle.arr_shape.specs.declared.bounds.Cut.{Cut}
-use Rattle.arr_shape.specs.Slices.{IsCut, cut_up}
+use Rattle.arr_shape.specs.Slices.{IsCut}
 use Rattle.arr_shape.proofs.Cuts.{stepped, made_up, lawful_up}
 use Rattle.arr_shape.proofs.slices.rising.Goals as goal
 

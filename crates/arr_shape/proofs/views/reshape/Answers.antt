@@ -1,13 +1,13 @@
-use Rattle.std.proofs.Common.{◌≡◌, ◌+◌, ◌≤◌, ℕ, List, true, false, refl, ap, ap₂, sym, ◌∙◌, subst, arith, rules}
+use Rattle.std.proofs.Common.{◌≡◌, ◌+◌, ◌≤◌, ℕ, List, true, ap, ap₂, sym, ◌∙◌, subst, arith, rules}
 use Rattle.std.specs.Prelude.{IsSome, Some, IfOk, Ok, ok_or}
 use Rattle.std.specs.List.{range_with_len}
 use Rattle.arr_view.specs.Strided.{Strided}
 use Rattle.arr_view.specs.Views.{elements, positions, is_view, whole_view, whole_strides, checked, view_from}
 use Rattle.arr_shape.specs.declared.fault.ShapeFault.TheVariants.{NotContiguous}
-use Rattle.arr_shape.specs.Views.{reshape, is_consecutive}
+use Rattle.arr_shape.specs.Views.{is_consecutive}
 use Rattle.arr_shape.proofs.Shapes.{IsShape, shape_of}
 use Rattle.arr_shape.proofs.Made.{checked_made, made, strided_of}
-use Rattle.arr_shape.proofs.Consecutive.{sound_whole, elements_whole, ends_inside, lists_same, other_count, reshape_by, answer}
+use Rattle.arr_shape.proofs.Consecutive.{sound_whole, elements_whole, ends_inside, lists_same, other_count, reshape_by}
 use Rattle.arr_shape.proofs.views.reshape.Goals as goal
 
 whole_there : (base : ℕ) (shape : List ℕ) → IsShape shape → checked (whole_view base shape) ≡ Some (whole_view base shape)

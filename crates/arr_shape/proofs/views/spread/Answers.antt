@@ -1,7 +1,7 @@
-use Rattle.std.proofs.Common.{◌≡◌, ◌+◌, ◌<◌, ◌≤◌, ◌-◌, ℕ, ℤ, pos, List, [], ◌∷◌, ◌++◌, Bool, true, false, cond, ◌||◌, ◌&&◌, length, get_or, drop, refl, ap, ap₂, sym, ◌∙◌, subst, arith, rules, append_assoc, length-append, to_z, of_z, w32}
-use Rattle.std.specs.Prelude.{nat_le, ◌==◌, ok_or, Some, replicate}
+use Rattle.std.proofs.Common.{◌≡◌, ◌+◌, ◌<◌, ◌≤◌, ℕ, ℤ, pos, List, [], ◌∷◌, ◌++◌, true, cond, ◌||◌, ◌&&◌, length, get_or, drop, ap, ap₂, sym, ◌∙◌, subst, arith, rules, append_assoc, length-append, w32}
+use Rattle.std.specs.Prelude.{◌==◌, ok_or}
 use mir.Val.{SFits}
-use Rattle.std.proofs.lemmas.Int.{ints, to_z-of_z}
+use Rattle.std.proofs.lemmas.Int.{to_z-of_z}
 use Rattle.std.proofs.lemmas.Bool.{eq-eqb, ne_eqb, cond-true, cond-false}
 use Rattle.std.proofs.lemmas.List.{drop_all, append-nil}
 use Rattle.arr_view.specs.Strided.{Strided}
@@ -9,10 +9,10 @@ use Rattle.arr_view.specs.Views.{is_view, view_from}
 use Rattle.arr_view.proofs.Checks.{same_rank}
 use Rattle.arr_shape.specs.declared.fault.ShapeFault.TheVariants.{ShapeMismatch}
 use Rattle.arr_shape.specs.Shapes.{padded}
-use Rattle.arr_shape.specs.Views.{spread, all_spread, spread_strides, padded_strides}
+use Rattle.arr_shape.specs.Views.{all_spread, spread_strides, padded_strides}
 use Rattle.arr_shape.proofs.Shapes.{shape_of}
-use Rattle.arr_shape.proofs.Made.{Sound, made, sound_view, strided_of}
-use Rattle.arr_shape.proofs.Spreads.{spread_turn, strides_turn, long_lengths, long_strides, sound_spread, spread_made, spread_refused}
+use Rattle.arr_shape.proofs.Made.{made, sound_view}
+use Rattle.arr_shape.proofs.Spreads.{spread_turn, strides_turn, long_lengths, long_strides, sound_spread, spread_made}
 use Rattle.arr_shape.proofs.views.spread.Goals as goal
 use Rattle.arr_shape.proofs.views.spread.Goals.{then-own-length, else-own-length+then-own-eq1}
 
@@ -47,22 +47,22 @@ loop-axis-preserved c =
     let turned : Turn c.loop-axis.strides.items c.if-own-length.strides.items (get_or shape i 0) (get_or ns i 1) (get_or ss i (pos 0)) =
     elim c.if-own-length.branch [
       | then-own-length w ↦ let r : ℤ = w.from_last.result in
-        let fits : SFits w32 r = search rules in
-        let even : get_or ns i 1 ≡ get_or shape i 0 = sym own ∙ w.if-own-length.true in
-        let value : r ≡ get_or ss i (pos 0) = w.from_last.ensures ∙ ap (λ xs. get_or (padded_strides (length shape) xs) i (pos 0)) w.strides.ensures.value in
-        record {
-          items =
-              ap (λ xs. xs.items) w.strides-is ∙ w.push.ensures.items
-              ∙ ap (λ z. c.loop-axis.strides.items ++ (z ∷ [])) (to_z-of_z w32 r fits ∙ value ∙ sym (cond-true (get_or ns i 1 == get_or shape i 0) (get_or ss i (pos 0)) (pos 0) (eq-eqb (get_or ns i 1) (get_or shape i 0) even)));
-          fits = ap (λ t. t || get_or ns i 1 == 1) (eq-eqb (get_or ns i 1) (get_or shape i 0) even);
-        }
+          let fits : SFits w32 r = search rules in
+          let even : get_or ns i 1 ≡ get_or shape i 0 = sym own ∙ w.if-own-length.true in
+          let value : r ≡ get_or ss i (pos 0) = w.from_last.ensures ∙ ap (λ xs. get_or (padded_strides (length shape) xs) i (pos 0)) w.strides.ensures.value in
+          record {
+            items =
+                ap (λ xs. xs.items) w.strides-is ∙ w.push.ensures.items
+                ∙ ap (λ z. c.loop-axis.strides.items ++ (z ∷ [])) (to_z-of_z w32 r fits ∙ value ∙ sym (cond-true (get_or ns i 1 == get_or shape i 0) (get_or ss i (pos 0)) (pos 0) (eq-eqb (get_or ns i 1) (get_or shape i 0) even)));
+            fits = ap (λ t. t || get_or ns i 1 == 1) (eq-eqb (get_or ns i 1) (get_or shape i 0) even);
+          }
       | else-own-length+then-own-eq1 w ↦ let other : get_or ns i 1 ≡ get_or shape i 0 → ⊥ = λ e. w.if-own-length.false (own ∙ e) in
-        record {
-          items =
-              ap (λ xs. xs.items) w.strides-is ∙ w.push-then-own-eq1.ensures.items
-              ∙ ap (λ z. c.loop-axis.strides.items ++ (z ∷ [])) (sym (cond-false (get_or ns i 1 == get_or shape i 0) (get_or ss i (pos 0)) (pos 0) (ne_eqb (get_or ns i 1) (get_or shape i 0) other)));
-          fits = ap (λ t. t || get_or ns i 1 == 1) (ne_eqb (get_or ns i 1) (get_or shape i 0) other) ∙ eq-eqb (get_or ns i 1) 1 (sym own ∙ w.if-own-eq1.true);
-        }
+          record {
+            items =
+                ap (λ xs. xs.items) w.strides-is ∙ w.push-then-own-eq1.ensures.items
+                ∙ ap (λ z. c.loop-axis.strides.items ++ (z ∷ [])) (sym (cond-false (get_or ns i 1 == get_or shape i 0) (get_or ss i (pos 0)) (pos 0) (ne_eqb (get_or ns i 1) (get_or shape i 0) other)));
+            fits = ap (λ t. t || get_or ns i 1 == 1) (ne_eqb (get_or ns i 1) (get_or shape i 0) other) ∙ eq-eqb (get_or ns i 1) 1 (sym own ∙ w.if-own-eq1.true);
+          }
     ] in
     record {
       many = ap length turned.items ∙ length-append c.loop-axis.strides.items (_ ∷ []) ∙ ap (λ k. k + 1) c.loop-axis.invariant.many;

@@ -8,6 +8,6 @@ invariant-loop-axis l = record {
   many : length l.strides.items ≡ l.axis;
   match : all_spread (drop l.axis l.shape) (drop l.axis (padded (length l.shape) l.view.lengths)) ≡ all_spread l.shape (padded (length l.shape) l.view.lengths);
   so_far :
-    l.strides.items ++ spread_strides (drop l.axis l.shape) (drop l.axis (padded (length l.shape) l.view.lengths)) (drop l.axis (padded_strides (length l.shape) l.view.strides))
-    ≡ spread_strides l.shape (padded (length l.shape) l.view.lengths) (padded_strides (length l.shape) l.view.strides);
+      l.strides.items ++ spread_strides (drop l.axis l.shape) (drop l.axis (padded (length l.shape) l.view.lengths)) (drop l.axis (padded_strides (length l.shape) l.view.strides))
+      ≡ spread_strides l.shape (padded (length l.shape) l.view.lengths) (padded_strides (length l.shape) l.view.strides);
 }

@@ -1,10 +1,10 @@
-use Rattle.std.proofs.Common.{◌≡◌, ◌≤◌, ◌<◌, ℕ, ℤ, List, length, reverse, true, refl, ap, ap₂, sym, ◌∙◌, subst, arith, rules}
+use Rattle.std.proofs.Common.{◌≡◌, ◌≤◌, ℕ, ℤ, List, length, reverse, true, ap, ap₂, sym, ◌∙◌, subst, arith, rules}
 use Rattle.std.specs.Prelude.{IsSome, Some}
 use Rattle.arr_view.specs.Strided.{Strided}
 use Rattle.arr_view.specs.Views.{is_view, view_from}
 use Rattle.arr_view.proofs.Checks.{lawful, same_rank, at_most_four}
 use Rattle.arr_shape.specs.Views.{transpose}
-use Rattle.arr_shape.proofs.Made.{Sound, made, sound_view}
+use Rattle.arr_shape.proofs.Made.{made, sound_view}
 use Rattle.arr_shape.proofs.Indexes.{sound_turned}
 use Rattle.arr_shape.proofs.views.transpose.Goals as goal
 
