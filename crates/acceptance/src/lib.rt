@@ -11,4 +11,6 @@ mod overlaps;
 #[cfg(test)]
 mod program;
 #[cfg(test)]
+mod shapes;
+#[cfg(test)]
 mod views;

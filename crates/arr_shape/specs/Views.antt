@@ -1,0 +1,67 @@
+-- What becomes of views.
+use Rattle.std.specs.Prelude.{ℕ, ℤ, pos, ◌+ℤ◌, ◌*ℤ◌, ◌-◌, List, [], ◌∷◌, ◌++◌, Bool, true, false, ◌||◌, ◌&&◌, ◌==◌, not, nat_lt, nat_le, if◌then◌else◌, length, replicate, reverse, Result, Ok, Err}
+use Rattle.std.specs.List.{range_with_len}
+use Rattle.arr_view.specs.Strided.{Strided}
+use Rattle.arr_view.specs.Views.{elements, positions, same_lists, whole_strides}
+use Rattle.arr_shape.specs.Shapes.{padded}
+use Rattle.arr_shape.specs.declared.fault.ShapeFault.{ShapeFault}
+use Rattle.arr_shape.specs.declared.fault.ShapeFault.TheVariants.{ShapeMismatch, NotContiguous, CountMismatch}
+
+-- ---- one element
+
+-- so many steps of each stride away
+abbrev pub place_at : ℤ → List ℤ → List ℕ → ℤ
+place_at z (s ∷ ss) (i ∷ is) = place_at (z +ℤ (pos i *ℤ s)) ss is
+place_at z _ _ = z
+
+-- an index for each length, counted from 0
+abbrev pub is_index : List ℕ → List ℕ → Bool
+is_index [] [] = true
+is_index (n ∷ ns) (i ∷ is) = nat_lt i n && is_index ns is
+is_index _ _ = false
+
+-- the element of a view at an index
+abbrev pub element_at : Strided → List ℕ → ℤ
+element_at v index = place_at (pos v.start) v.strides index
+
+-- ---- spreading
+
+-- strides of 0 in front, so that there are as many as dimensions
+abbrev pub padded_strides : ℕ → List ℤ → List ℤ
+padded_strides rank ss = replicate (rank - length ss) (pos 0) ++ ss
+
+-- each length is the other's, or the other's is 1
+abbrev pub all_spread : List ℕ → List ℕ → Bool
+all_spread (m ∷ ms) (n ∷ ns) = (n == m || n == 1) && all_spread ms ns
+all_spread _ _ = true
+
+-- a dimension that is spread has stride 0
+abbrev pub spread_strides : List ℕ → List ℕ → List ℤ → List ℤ
+spread_strides (m ∷ ms) (n ∷ ns) (s ∷ ss) = (if n == m then s else pos 0) ∷ spread_strides ms ns ss
+spread_strides _ _ _ = []
+
+-- the view spread to a shape, matched from the last dimension on
+abbrev pub spread : Strided → List ℕ → Result Strided ShapeFault
+spread v shape =
+    let rank = length shape in
+    if nat_le (length v.lengths) rank && all_spread shape (padded rank v.lengths)
+    then Ok (record { base = v.base; start = v.start; lengths = shape; strides = spread_strides shape (padded rank v.lengths) (padded_strides rank v.strides) })
+    else Err ShapeMismatch
+
+-- ---- turning round
+
+abbrev pub transpose : Strided → Strided
+transpose v = record { base = v.base; start = v.start; lengths = reverse v.lengths; strides = reverse v.strides }
+
+-- ---- reshaping
+
+-- its elements are consecutive and rising, in row-major order
+abbrev pub is_consecutive : Strided → Bool
+is_consecutive v = same_lists (elements v) (range_with_len v.start (positions v.lengths))
+
+-- the same elements in another shape
+abbrev pub reshape : Strided → List ℕ → Result Strided ShapeFault
+reshape v shape =
+    if not (positions v.lengths == positions shape) then Err CountMismatch
+    else (if not (is_consecutive v) then Err NotContiguous
+    else Ok (record { base = v.base; start = v.start; lengths = shape; strides = whole_strides shape }))

@@ -1,0 +1,92 @@
+//! Views that are spread, turned round or reshaped.
+ghost use Rattle.std.specs.Prelude.{◌≡◌, ◌≤◌, IfOk, IsTrue, length, reverse};
+ghost use Rattle.arr_shape.specs.Shapes.{is_shape};
+ghost use Rattle.arr_shape.specs.Views.{spread, transpose, is_consecutive, reshape};
+ghost use Rattle.arr_view.specs.Strided.{Strided};
+ghost use Rattle.arr_view.specs.Views.{elements};
+
+use crate::ShapeFault;
+use crate::lengths::from_last;
+use arr_view::View;
+use arrayvec::ArrayVec;
+
+/// The view spread to a shape. The lengths are matched from the last dimension on, and one that the view lacks counts as 1.
+/// `ShapeMismatch` exactly where the view has more dimensions than the shape, or one of its lengths is neither the shape's nor 1. A
+/// dimension that is spread has stride 0.
+pub fn spread(view: &View, shape: &[u32]) -> Result<View, ShapeFault>
+    requires { IsTrue (is_shape shape.now) }
+    ensures { result ≡ spread view.now shape.now }
+{
+    if view.shape().len() > shape.len() {
+        return Err(ShapeFault::ShapeMismatch);
+    }
+    let mut strides = ArrayVec::<i32, 4>::new();
+    for (axis, length) in shape.iter().enumerate() {
+        let own = from_last(view.shape(), shape.len(), axis, 1);
+        if own == *length {
+            strides.push(from_last(view.strides(), shape.len(), axis, 0));
+        } else if own == 1 {
+            strides.push(0);
+        } else {
+            return Err(ShapeFault::ShapeMismatch);
+        }
+    }
+    View::new(view.base(), view.start(), shape, strides.as_slice()).ok_or(ShapeFault::ShapeMismatch)
+}
+
+/// The same list, turned round.
+fn reversed<T: Copy + Default + Drop>(list: &[T]) -> ArrayVec<T, 4>
+    requires { length list.now ≤ 4 }
+    ensures { result.items ≡ reverse list.now }
+{
+    let mut turned = ArrayVec::new();
+    for item in list {
+        turned.insert(0, *item);
+    }
+    turned
+}
+
+/// The view with its dimensions in the opposite order.
+pub fn transpose(view: &View) -> View
+    ensures { result ≡ transpose view.now }
+{
+    let shape = reversed(view.shape());
+    let strides = reversed(view.strides());
+    View::new(
+        view.base(),
+        view.start(),
+        shape.as_slice(),
+        strides.as_slice(),
+    )
+    .unwrap()
+}
+
+/// Whether the elements are consecutive and rising.
+fn is_consecutive(view: &View) -> bool
+    ensures { result ≡ is_consecutive view.now }
+{
+    let start = view.start();
+    for position in 0..view.positions() {
+        if view.element(position) != start + position {
+            return false;
+        }
+    }
+    true
+}
+
+/// The same elements in another shape. Refusals, in this order: `CountMismatch` exactly where the shape has another number of
+/// positions than the view, `NotContiguous` exactly where the view's elements are not consecutive and rising in row-major order.
+pub fn reshape(view: &View, shape: &[u32]) -> Result<View, ShapeFault>
+    requires { IsTrue (is_shape shape.now) }
+    ensures view { result ≡ reshape view.now shape.now }
+    ensures elements { IfOk result (λ (reshaped : Strided). elements reshaped ≡ elements view.now) }
+{
+    let whole = View::whole(view.base(), shape).unwrap();
+    if whole.positions() != view.positions() {
+        return Err(ShapeFault::CountMismatch);
+    }
+    if !is_consecutive(view) {
+        return Err(ShapeFault::NotContiguous);
+    }
+    View::new(view.base(), view.start(), shape, whole.strides()).ok_or(ShapeFault::NotContiguous)
+}
