@@ -116,7 +116,7 @@ place-append z [] ts (i ∷ is) js e = absurd (omega arith)
 place-append z (s ∷ ss) ts [] js e = absurd (omega arith)
 place-append z (s ∷ ss) ts (i ∷ is) js e = place-append (z +ℤ (pos i *ℤ s)) ss ts is js (omega arith)
 
-place-reverse : (z : ℤ) (ss : List ℤ) (is : List ℕ) → length ss ≡ length is → place_at z (reverse ss) (reverse is) ≡ place_at z ss is
+pub place-reverse : (z : ℤ) (ss : List ℤ) (is : List ℕ) → length ss ≡ length is → place_at z (reverse ss) (reverse is) ≡ place_at z ss is
 place-reverse z [] [] e = refl
 place-reverse z [] (i ∷ is) e = absurd (omega arith)
 place-reverse z (s ∷ ss) [] e = absurd (omega arith)

@@ -1,19 +1,20 @@
 -- Views that are spread.
-use Rattle.std.proofs.Common.{◌≡◌, ℕ, zero, suc, ◌+◌, ◌-◌, ◌<◌, ◌≤◌, ℤ, pos, ◌+ℤ◌, List, [], ◌∷◌, ◌++◌, Bool, true, false, cond, not, ◌||◌, ◌&&◌, length, get_or, drop, refl, ap, ap₂, sym, ◌∙◌, subst, arith, length-append}
+use Rattle.std.proofs.Common.{◌≡◌, ℕ, zero, suc, ◌+◌, ◌-◌, ◌<◌, ◌≤◌, ℤ, pos, ◌+ℤ◌, ◌*ℤ◌, List, [], ◌∷◌, ◌++◌, Bool, true, false, cond, not, ◌||◌, ◌&&◌, length, get_or, drop, refl, ap, ap₂, sym, ◌∙◌, subst, arith, length-append}
 use Rattle.std.specs.Prelude.{nat_le, ◌==◌, replicate}
 use Rattle.std.proofs.lemmas.Int.{ints}
 use Rattle.std.proofs.lemmas.Bool.{and_parts, and_from, and_right, eqb-true, le-leb}
 use Rattle.std.proofs.lemmas.List.{drop_more, length-replicate}
 use Rattle.arr_view.specs.Views.{places, is_place, is_zero, strides_kept}
-use Rattle.arr_view.proofs.Places.{Inside, steps, in_steps, out_steps}
+use Rattle.arr_view.proofs.Places.{Inside, steps, steps_is, in_steps, out_steps}
 use Rattle.std.specs.Prelude.{Ok, Err}
 use Rattle.std.specs.List.{list_all}
 use Rattle.arr_view.specs.Strided.{Strided}
 use Rattle.arr_shape.specs.declared.fault.ShapeFault.TheVariants.{ShapeMismatch}
 use Rattle.arr_shape.specs.Shapes.{padded}
-use Rattle.arr_shape.specs.Views.{spread, all_spread, spread_strides, padded_strides}
+use Rattle.arr_shape.specs.Views.{place_at, is_index, narrowed, spread_from, spread, all_spread, spread_strides, padded_strides}
 use Rattle.arr_shape.proofs.Shapes.{IsShape, length-padded}
-use Rattle.arr_shape.proofs.Made.{Sound, strided_of}
+use Rattle.arr_shape.proofs.Made.{Sound, strided_of, zero_is}
+use Rattle.arr_shape.proofs.Indexes.{index_length}
 
 pub spread_turn : (ms ns : List ℕ) (i : ℕ) → i < length ms → i < length ns → all_spread (drop i ms) (drop i ns) ≡ ((get_or ns i 1 == get_or ms i 0 || get_or ns i 1 == 1) && all_spread (drop (i + 1) ms) (drop (i + 1) ns))
 spread_turn ms ns i a b = ap₂ all_spread (drop_more ms i 0 a) (drop_more ns i 1 b)
@@ -121,3 +122,52 @@ pub spread_refused : (v : Strided) (shape : List ℕ) → all_spread shape (padd
 spread_refused v shape e =
     ap (λ b. cond b (Ok (strided_of v.base v.start shape (spread_strides shape (padded (length shape) v.lengths) (padded_strides (length shape) v.strides)))) (Err ShapeMismatch))
     (and_right (nat_le (length v.lengths) (length shape)) _ e)
+
+-- ---- its elements
+
+stays : (i : ℕ) (s : ℤ) (m n : ℕ) → (n == m || n == 1) ≡ true → (not (n == 1) || is_zero s) ≡ true → (pos i *ℤ cond (n == m) s (pos 0)) ≡ (pos (cond (n == 1) 0 i) *ℤ s)
+stays i s m n e f = by (n == m) (n == 1) e f
+  where
+    none : (j : ℕ) → (pos j *ℤ pos 0) ≡ pos 0
+    none j = sym (steps_is j (pos 0)) ∙ steps_none j
+
+    first : (t : ℤ) → (pos 0 *ℤ t) ≡ pos 0
+    first t = sym (steps_is 0 t)
+
+    by : (a b : Bool) → (a || b) ≡ true → (not b || is_zero s) ≡ true → (pos i *ℤ cond a s (pos 0)) ≡ (pos (cond b 0 i) *ℤ s)
+    by true true e f = ap (λ t. pos i *ℤ t) (zero_is s f) ∙ none i ∙ sym (first s)
+    by true false e f = refl
+    by false true e f = none i ∙ sym (first s)
+    by false false e f = absurd (let g : false ≡ true = e in cc)
+
+spread_place : (ms ns : List ℕ) (ss : List ℤ) (z : ℤ) (is : List ℕ) → all_spread ms ns ≡ true → strides_kept ns ss ≡ true → length ns ≡ length ms → length is ≡ length ms
+    → place_at z (spread_strides ms ns ss) is ≡ place_at z ss (narrowed ns is)
+spread_place [] [] [] z [] e f a b = refl
+spread_place [] [] [] z (i ∷ is) e f a b = absurd (omega arith)
+spread_place [] [] (s ∷ ss) z is e f a b = absurd (let g : false ≡ true = f in cc)
+spread_place [] (n ∷ ns) ss z is e f a b = absurd (omega arith)
+spread_place (m ∷ ms) [] ss z is e f a b = absurd (omega arith)
+spread_place (m ∷ ms) (n ∷ ns) [] z is e f a b = absurd (let g : false ≡ true = f in cc)
+spread_place (m ∷ ms) (n ∷ ns) (s ∷ ss) z [] e f a b = absurd (omega arith)
+spread_place (m ∷ ms) (n ∷ ns) (s ∷ ss) z (i ∷ is) e f a b =
+    let fits = and_parts (n == m || n == 1) (all_spread ms ns) e in
+    let kept = and_parts (not (n == 1) || is_zero s) (strides_kept ns ss) f in
+    ap (λ t. place_at (z +ℤ t) (spread_strides ms ns ss) is) (stays i s m n fits.0 kept.0) ∙ spread_place ms ns ss (z +ℤ (pos (cond (n == 1) 0 i) *ℤ s)) is fits.1 kept.1 (omega arith) (omega arith)
+
+front_place : (k : ℕ) (ns : List ℕ) (ss : List ℤ) (z : ℤ) (is : List ℕ) → k ≤ length is
+    → place_at z (replicate k (pos 0) ++ ss) (narrowed (replicate k 1 ++ ns) is) ≡ place_at z ss (narrowed ns (drop k is))
+front_place zero ns ss z is h = refl
+front_place (suc k) ns ss z [] h = absurd (omega arith)
+front_place (suc k) ns ss z (i ∷ is) h =
+    let still : z +ℤ pos 0 ≡ z = omega (arith, ints) in
+    ap (λ y. place_at y (replicate k (pos 0) ++ ss) (narrowed (replicate k 1 ++ ns) is)) still ∙ front_place k ns ss z is (omega arith)
+
+pub spread_element : (start : ℕ) (ns : List ℕ) (ss : List ℤ) (shape : List ℕ) (same : length ss ≡ length ns) → Sound start ns ss → length ns ≤ length shape → all_spread shape (padded (length shape) ns) ≡ true
+    → (index : List ℕ) → is_index shape index ≡ true
+    → place_at (pos start) (spread_strides shape (padded (length shape) ns) (padded_strides (length shape) ss)) index ≡ place_at (pos start) ss (spread_from ns index)
+spread_element start ns ss shape same view wide fits index e =
+    let long : length index ≡ length shape = index_length shape index e in
+    spread_place shape (padded (length shape) ns) (padded_strides (length shape) ss) (pos start) index fits (own_kept start ns ss shape same view wide) (long_lengths start ns ss shape same view wide) long
+    ∙ ap (λ k. place_at (pos start) (replicate (length shape - k) (pos 0) ++ ss) (narrowed (padded (length shape) ns) index)) same
+    ∙ front_place (length shape - length ns) ns ss (pos start) index (omega arith)
+    ∙ ap (λ k. place_at (pos start) ss (narrowed ns (drop (k - length ns) index))) (sym long)

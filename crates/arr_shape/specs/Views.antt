@@ -1,5 +1,5 @@
 -- What becomes of views.
-use Rattle.std.specs.Prelude.{ℕ, ℤ, pos, ◌+ℤ◌, ◌*ℤ◌, ◌-◌, List, [], ◌∷◌, ◌++◌, Bool, true, false, ◌||◌, ◌&&◌, ◌==◌, not, nat_lt, nat_le, if◌then◌else◌, length, replicate, reverse, Result, Ok, Err}
+use Rattle.std.specs.Prelude.{ℕ, ℤ, pos, ◌+ℤ◌, ◌*ℤ◌, ◌-◌, List, [], ◌∷◌, ◌++◌, Bool, true, false, ◌||◌, ◌&&◌, ◌==◌, not, nat_lt, nat_le, if◌then◌else◌, length, drop, replicate, reverse, Result, Ok, Err}
 use Rattle.std.specs.List.{range_with_len}
 use Rattle.arr_view.specs.Strided.{Strided}
 use Rattle.arr_view.specs.Views.{elements, positions, same_lists, whole_strides}
@@ -47,6 +47,15 @@ spread v shape =
     if nat_le (length v.lengths) rank && all_spread shape (padded rank v.lengths)
     then Ok (record { base = v.base; start = v.start; lengths = shape; strides = spread_strides shape (padded rank v.lengths) (padded_strides rank v.strides) })
     else Err ShapeMismatch
+
+-- 0 for each dimension of length 1
+abbrev pub narrowed : List ℕ → List ℕ → List ℕ
+narrowed (n ∷ ns) (i ∷ is) = (if n == 1 then 0 else i) ∷ narrowed ns is
+narrowed _ _ = []
+
+-- the index of a view with these lengths for an index of a shape that it is spread to: the last dimensions'
+abbrev pub spread_from : List ℕ → List ℕ → List ℕ
+spread_from ns index = narrowed ns (drop (length index - length ns) index)
 
 -- ---- turning round
 

@@ -1,7 +1,7 @@
 //! Views that are spread, turned round or reshaped.
-ghost use Rattle.std.specs.Prelude.{◌≡◌, ◌≤◌, IfOk, IsTrue, length, reverse};
+ghost use Rattle.std.specs.Prelude.{◌≡◌, ◌≤◌, IfOk, IsTrue, List, ℕ, length, reverse};
 ghost use Rattle.arr_shape.specs.Shapes.{is_shape};
-ghost use Rattle.arr_shape.specs.Views.{spread, transpose, is_consecutive, reshape};
+ghost use Rattle.arr_shape.specs.Views.{element_at, is_index, spread_from, spread, transpose, is_consecutive, reshape};
 ghost use Rattle.arr_view.specs.Strided.{Strided};
 ghost use Rattle.arr_view.specs.Views.{elements};
 
@@ -12,10 +12,11 @@ use arrayvec::ArrayVec;
 
 /// The view spread to a shape. The lengths are matched from the last dimension on, and one that the view lacks counts as 1.
 /// `ShapeMismatch` exactly where the view has more dimensions than the shape, or one of its lengths is neither the shape's nor 1. A
-/// dimension that is spread has stride 0.
+/// dimension that is spread has stride 0, so each of its indices gives the element at index 0.
 pub fn spread(view: &View, shape: &[u32]) -> Result<View, ShapeFault>
     requires { IsTrue (is_shape shape.now) }
-    ensures { result ≡ spread view.now shape.now }
+    ensures view { result ≡ spread view.now shape.now }
+    ensures elements { IfOk result (λ (wide : Strided). (index : List ℕ) → IsTrue (is_index shape.now index) → element_at wide index ≡ element_at view.now (spread_from view.now.lengths index)) }
 {
     if view.shape().len() > shape.len() {
         return Err(ShapeFault::ShapeMismatch);
@@ -46,9 +47,10 @@ fn reversed<T: Copy + Default + Drop>(list: &[T]) -> ArrayVec<T, 4>
     turned
 }
 
-/// The view with its dimensions in the opposite order.
+/// The view with its dimensions in the opposite order: the element at an index is that of the view at the index turned round.
 pub fn transpose(view: &View) -> View
-    ensures { result ≡ transpose view.now }
+    ensures view { result ≡ transpose view.now }
+    ensures elements { (index : List ℕ) → IsTrue (is_index view.now.lengths index) → element_at result (reverse index) ≡ element_at view.now index }
 {
     let shape = reversed(view.shape());
     let strides = reversed(view.strides());

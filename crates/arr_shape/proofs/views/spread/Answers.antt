@@ -1,5 +1,5 @@
 use Rattle.std.proofs.Common.{◌≡◌, ◌+◌, ◌<◌, ◌≤◌, ℕ, ℤ, pos, List, [], ◌∷◌, ◌++◌, true, cond, ◌||◌, ◌&&◌, length, get_or, drop, ap, ap₂, sym, ◌∙◌, subst, arith, rules, append_assoc, length-append, w32}
-use Rattle.std.specs.Prelude.{◌==◌, ok_or}
+use Rattle.std.specs.Prelude.{◌==◌, ok_or, Ok, IfOk, IsTrue}
 use mir.Val.{SFits}
 use Rattle.std.proofs.lemmas.Int.{to_z-of_z}
 use Rattle.std.proofs.lemmas.Bool.{eq-eqb, ne_eqb, cond-true, cond-false}
@@ -9,10 +9,10 @@ use Rattle.arr_view.specs.Views.{is_view, view_from}
 use Rattle.arr_view.proofs.Checks.{same_rank}
 use Rattle.arr_shape.specs.declared.fault.ShapeFault.TheVariants.{ShapeMismatch}
 use Rattle.arr_shape.specs.Shapes.{padded}
-use Rattle.arr_shape.specs.Views.{all_spread, spread_strides, padded_strides}
+use Rattle.arr_shape.specs.Views.{element_at, is_index, spread_from, all_spread, spread_strides, padded_strides}
 use Rattle.arr_shape.proofs.Shapes.{shape_of}
-use Rattle.arr_shape.proofs.Made.{made, sound_view}
-use Rattle.arr_shape.proofs.Spreads.{spread_turn, strides_turn, long_lengths, long_strides, sound_spread, spread_made}
+use Rattle.arr_shape.proofs.Made.{made, sound_view, strided_of}
+use Rattle.arr_shape.proofs.Spreads.{spread_turn, strides_turn, long_lengths, long_strides, sound_spread, spread_made, spread_element}
 use Rattle.arr_shape.proofs.views.spread.Goals as goal
 use Rattle.arr_shape.proofs.views.spread.Goals.{then-own-length, else-own-length+then-own-eq1}
 
@@ -76,8 +76,8 @@ loop-axis-preserved c =
           ∙ c.loop-axis.invariant.so_far;
     }
 
-pub returns : goal.returns
-returns c =
+pub returns-clause-view : goal.returns-clause-view
+returns-clause-view c =
     let v : Strided = c.args.view.now in
     let shape = c.args.shape.now in
     let i : ℕ = c.loop-axis.axis in
@@ -95,3 +95,25 @@ returns c =
     ∙ ap (λ o. ok_or o ShapeMismatch)
     (c.new.ensures ∙ ap₂ (λ x y. view_from x y shape c.as_slice.result.now) c.base.ensures.value c.start.ensures.value ∙ ap (view_from v.base v.start shape) strides ∙ made v.base v.start shape _ sound)
     ∙ sym (spread_made v shape wide fits)
+
+pub returns-clause-elements : goal.returns-clause-elements
+returns-clause-elements c =
+    let v : Strided = c.args.view.now in
+    let shape = c.args.shape.now in
+    let i : ℕ = c.loop-axis.axis in
+    let lawful : is_view v ≡ true = c.base.ensures.lawful in
+    let same : length v.strides ≡ length v.lengths = same_rank v lawful in
+    let b : length c.shape.result.now ≡ length v.lengths = ap length c.shape.ensures.value in
+    let wide : length v.lengths ≤ length shape = omega arith in
+    let none : drop i shape ≡ [] = drop_all i shape c.loop-axis-test.false in
+    let fits : all_spread shape (padded (length shape) v.lengths) ≡ true = sym c.loop-axis.invariant.match ∙ ap (λ xs. all_spread xs (drop i (padded (length shape) v.lengths))) none in
+    let strides : c.as_slice.result.now ≡ spread_strides shape (padded (length shape) v.lengths) (padded_strides (length shape) v.strides) =
+    c.as_slice.ensures.value ∙ sym (append-nil c.loop-axis.strides.items)
+    ∙ ap (λ xs. c.loop-axis.strides.items ++ spread_strides xs (drop i (padded (length shape) v.lengths)) (drop i (padded_strides (length shape) v.strides))) (sym none) ∙ c.loop-axis.invariant.so_far in
+    let sound = sound_spread v.start v.lengths v.strides shape same (sound_view v lawful) wide (shape_of shape c.requires) fits in
+    let is : c.ok_or.result ≡ Ok (strided_of v.base v.start shape (spread_strides shape (padded (length shape) v.lengths) (padded_strides (length shape) v.strides))) =
+    c.ok_or.ensures.value
+    ∙ ap (λ o. ok_or o ShapeMismatch)
+    (c.new.ensures ∙ ap₂ (λ x y. view_from x y shape c.as_slice.result.now) c.base.ensures.value c.start.ensures.value ∙ ap (view_from v.base v.start shape) strides ∙ made v.base v.start shape _ sound) in
+    subst (λ o. IfOk o (λ (wide : Strided). (index : List ℕ) → IsTrue (is_index shape index) → element_at wide index ≡ element_at v (spread_from v.lengths index))) (sym is)
+    (λ index e. spread_element v.start v.lengths v.strides shape same (sound_view v lawful) wide fits index e)

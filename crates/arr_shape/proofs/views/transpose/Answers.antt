@@ -1,11 +1,11 @@
-use Rattle.std.proofs.Common.{◌≡◌, ◌≤◌, ℕ, ℤ, List, length, reverse, true, ap, ap₂, sym, ◌∙◌, subst, arith, rules}
-use Rattle.std.specs.Prelude.{IsSome, Some}
+use Rattle.std.proofs.Common.{◌≡◌, ◌≤◌, ℕ, ℤ, pos, List, length, reverse, true, ap, ap₂, sym, ◌∙◌, subst, arith, rules}
+use Rattle.std.specs.Prelude.{IsSome, IsTrue, Some}
 use Rattle.arr_view.specs.Strided.{Strided}
 use Rattle.arr_view.specs.Views.{is_view, view_from}
 use Rattle.arr_view.proofs.Checks.{lawful, same_rank, at_most_four}
-use Rattle.arr_shape.specs.Views.{transpose}
+use Rattle.arr_shape.specs.Views.{element_at, is_index, transpose}
 use Rattle.arr_shape.proofs.Made.{made, sound_view}
-use Rattle.arr_shape.proofs.Indexes.{sound_turned}
+use Rattle.arr_shape.proofs.Indexes.{sound_turned, index_length, place-reverse}
 use Rattle.arr_shape.proofs.views.transpose.Goals as goal
 
 four : (v : Strided) → is_view v ≡ true → length v.strides ≤ 4
@@ -24,6 +24,9 @@ module _ (v : Strided) (base start : ℕ) (ns : List ℕ) (ss : List ℤ) (e : i
   answer : view_from base start ns ss ≡ Some (transpose v)
   answer = ap₂ (λ x y. view_from x y ns ss) a b ∙ ap₂ (view_from v.base v.start) f g ∙ turned v e
 
+turned_element : (v : Strided) (index : List ℕ) → length v.strides ≡ length v.lengths → IsTrue (is_index v.lengths index) → element_at (transpose v) (reverse index) ≡ element_at v index
+turned_element v index same e = place-reverse (pos v.start) v.strides index (same ∙ sym (index_length v.lengths index e))
+
 pub unwrap-requires : goal.unwrap-requires
 unwrap-requires c =
     subst IsSome
@@ -31,9 +34,17 @@ unwrap-requires c =
     (c.as_slice.ensures.value ∙ c.reversed-shape.ensures ∙ ap reverse c.shape.ensures.value) (c.as_slice-2.ensures.value ∙ c.reversed-strides.ensures ∙ ap reverse c.strides.ensures.value)))
     (search rules)
 
-pub returns : goal.returns
-returns c =
+pub returns-clause-view : goal.returns-clause-view
+returns-clause-view c =
     let some : c.new.result ≡ Some (transpose c.args.view.now) = c.new.ensures ∙ answer c.args.view.now c.base.result c.start.result c.as_slice.result.now c.as_slice-2.result.now c.base.ensures.lawful c.base.ensures.value c.start.ensures.value
     (c.as_slice.ensures.value ∙ c.reversed-shape.ensures ∙ ap reverse c.shape.ensures.value) (c.as_slice-2.ensures.value ∙ c.reversed-strides.ensures ∙ ap reverse c.strides.ensures.value) in
     let same : c.new.result ≡ Some c.unwrap.result = c.unwrap.ensures in
     cc
+
+pub returns-clause-elements : goal.returns-clause-elements
+returns-clause-elements c = λ index e.
+    let some : c.new.result ≡ Some (transpose c.args.view.now) = c.new.ensures ∙ answer c.args.view.now c.base.result c.start.result c.as_slice.result.now c.as_slice-2.result.now c.base.ensures.lawful c.base.ensures.value c.start.ensures.value
+    (c.as_slice.ensures.value ∙ c.reversed-shape.ensures ∙ ap reverse c.shape.ensures.value) (c.as_slice-2.ensures.value ∙ c.reversed-strides.ensures ∙ ap reverse c.strides.ensures.value) in
+    let same : c.new.result ≡ Some c.unwrap.result = c.unwrap.ensures in
+    let is : c.unwrap.result ≡ transpose c.args.view.now = cc in
+    ap (λ w. element_at w (reverse index)) is ∙ turned_element c.args.view.now index (same_rank c.args.view.now c.base.ensures.lawful) e
