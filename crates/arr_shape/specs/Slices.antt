@@ -1,5 +1,6 @@
 -- What slices take of a view.
-use Rattle.std.specs.Prelude.{◌≡◌, ℕ, zero, suc, ◌+◌, ◌-◌, ◌<◌, ◌≤◌, ℤ, pos, negsuc, ◌+ℤ◌, ◌*ℤ◌, List, [], ◌∷◌, Bool, false, ◌||◌, ◌==◌, nat_lt, nat_le, if◌then◌else◌, length, map, Option, Some, None, unwrap_or, Result, Ok, Err}
+use Rattle.std.specs.Prelude.{◌≡◌, ℕ, zero, suc, ◌+◌, ◌-◌, ◌<◌, ◌≤◌, ℤ, pos, negsuc, ◌+ℤ◌, ◌*ℤ◌, List, [], ◌∷◌, Bool, false, ◌||◌, ◌==◌, nat_lt, nat_le, if◌then◌else◌, length, get_or, map, Option, Some, None, unwrap_or, Result, Ok, Err}
+use Rattle.std.specs.List.{range_with_len}
 use Rattle.arr_view.specs.Strided.{Strided}
 use Rattle.arr_view.specs.Views.{to_place}
 use Rattle.arr_shape.specs.Views.{place_at}
@@ -91,6 +92,23 @@ cut_result v (Ok cuts) = Ok (cut_view v cuts)
 
 abbrev pub slice : Strided → List Slice → Result Strided ShapeFault
 slice v slices = if nat_lt (length v.lengths) (length slices) then Err RankRange else cut_result v (all_cuts v.lengths slices)
+
+-- ---- the indices of the view that an index of the slice stands for
+
+-- first to last
+abbrev pub taken_by : ℕ → Option ℕ → Option ℕ → ℤ → List ℕ
+taken_by n start stop (pos step) = rising n (unwrap_or start 0) (unwrap_or stop n) step
+taken_by n start stop (negsuc back) = falling n (unwrap_or start (n - 1)) (floor_of stop) (suc back)
+
+-- of each dimension; one without a slice stays whole
+abbrev pub taken : List ℕ → List Slice → List (List ℕ)
+taken [] slices = []
+taken (n ∷ ns) [] = range_with_len 0 n ∷ taken ns []
+taken (n ∷ ns) (slice ∷ slices) = taken_by n slice.start slice.stop slice.step ∷ taken ns slices
+
+abbrev pub picked : List (List ℕ) → List ℕ → List ℕ
+picked (xs ∷ rest) (i ∷ is) = get_or xs i 0 ∷ picked rest is
+picked _ _ = []
 
 -- ---- what a cut keeps to
 

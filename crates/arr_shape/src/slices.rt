@@ -1,9 +1,11 @@
 //! Slices of views.
-ghost use Rattle.std.specs.Prelude.{◌≡◌, ◌+◌, ◌-◌, ◌<◌, ◌≤◌, ◌/◌, ◌*ℤ◌, ◌≤ℤ◌, ◌==◌, nat_le, true, Ok, Err, pos, negsuc, cond, unsigned_abs, IfOk, IsTrue, length, Option, Some, None, suc};
+ghost use Rattle.std.specs.Prelude.{◌≡◌, ◌+◌, ◌-◌, ◌<◌, ◌≤◌, ◌/◌, ◌*ℤ◌, ◌≤ℤ◌, ◌==◌, nat_le, true, Ok, Err, pos, negsuc, cond, unsigned_abs, IfOk, IsTrue, List, ℕ, length, Option, Some, None, suc};
 ghost use Rattle.std.specs.List.{list_all};
 ghost use Rattle.std.specs.Result.{result_map_both};
 ghost use Rattle.arr_view.specs.Views.{positions};
-ghost use Rattle.arr_shape.specs.Slices.{cut, cut_up, cut_down, whole_cut, all_cuts, cut_view, IsCut, AreCuts, slice};
+ghost use Rattle.arr_shape.specs.Slices.{cut, cut_up, cut_down, whole_cut, all_cuts, cut_view, IsCut, AreCuts, taken, picked, slice};
+ghost use Rattle.arr_shape.specs.Views.{element_at, is_index};
+ghost use Rattle.arr_view.specs.Strided.{Strided};
 
 use crate::ShapeFault;
 use crate::bounds::{Cut, Slice};
@@ -152,7 +154,8 @@ fn cut_view(view: &View, cuts: &[Cut]) -> View
 /// `SliceRange` where a bound lies above the length, or above the last index for a step below 0, and `EmptyArray` where no index is
 /// left.
 pub fn slice(view: &View, slices: &[Slice]) -> Result<View, ShapeFault>
-    ensures { result ≡ slice view.now slices.now }
+    ensures view { result ≡ slice view.now slices.now }
+    ensures elements { IfOk result (λ (cut : Strided). (index : List ℕ) → IsTrue (is_index cut.lengths index) → element_at cut index ≡ element_at view.now (picked (taken view.now.lengths slices.now) index)) }
 {
     if slices.len() > view.shape().len() {
         return Err(ShapeFault::RankRange);
