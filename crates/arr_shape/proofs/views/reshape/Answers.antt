@@ -14,12 +14,12 @@ whole_there : (base : ℕ) (shape : List ℕ) → IsShape shape → checked (who
 whole_there base shape good = checked_made base 0 shape (whole_strides shape) (sound_whole 0 shape good (let h : positions shape ≤ 1048576 = good.size in omega arith))
 
 pub unwrap-whole-requires : goal.unwrap-whole-requires
-unwrap-whole-requires c = subst IsSome (sym (c.whole.ensures ∙ whole_there c.base.result c.args.shape.now (shape_of c.args.shape.now c.requires))) (search rules)
+unwrap-whole-requires c = subst IsSome (sym (c.whole.ensures.value ∙ whole_there c.base.result c.args.shape.now (shape_of c.args.shape.now c.requires))) (search rules)
 
 pub returns-then-positions-clause-view : goal.returns-then-positions-clause-view
 returns-then-positions-clause-view c =
     let shape : List ℕ = c.args.shape.now in
-    let whole_is : Some c.unwrap-whole.result ≡ Some (whole_view c.base.result shape) = sym c.unwrap-whole.ensures ∙ c.whole.ensures ∙ whole_there c.base.result shape (shape_of shape c.requires) in
+    let whole_is : Some c.unwrap-whole.result ≡ Some (whole_view c.base.result shape) = sym c.unwrap-whole.ensures ∙ c.whole.ensures.value ∙ whole_there c.base.result shape (shape_of shape c.requires) in
     let same : c.unwrap-whole.result ≡ whole_view c.base.result shape = cc in
     sym (other_count c.args.view.now shape (λ e. c.if-positions.true (c.positions.ensures.value ∙ ap (λ (w : Strided). positions w.lengths) same ∙ sym e ∙ sym c.positions-2.ensures.value)))
 
@@ -35,7 +35,7 @@ returns-clause-view c =
     let v : Strided = c.args.view.now in
     let shape : List ℕ = c.args.shape.now in
     let good : IsShape shape = shape_of shape c.requires in
-    let whole_is : Some c.unwrap-whole.result ≡ Some (whole_view c.base.result shape) = sym c.unwrap-whole.ensures ∙ c.whole.ensures ∙ whole_there c.base.result shape good in
+    let whole_is : Some c.unwrap-whole.result ≡ Some (whole_view c.base.result shape) = sym c.unwrap-whole.ensures ∙ c.whole.ensures.value ∙ whole_there c.base.result shape good in
     let same : c.unwrap-whole.result ≡ whole_view c.base.result shape = cc in
     let even : positions v.lengths ≡ positions shape = sym c.positions-2.ensures.value ∙ sym c.if-positions.false ∙ c.positions.ensures.value ∙ ap (λ (w : Strided). positions w.lengths) same in
     let in_order : is_consecutive v ≡ true = sym c.is_consecutive.ensures ∙ c.if-not-is_consecutive.false in
@@ -50,7 +50,7 @@ returns-clause-elements c =
     let v : Strided = c.args.view.now in
     let shape : List ℕ = c.args.shape.now in
     let good : IsShape shape = shape_of shape c.requires in
-    let whole_is : Some c.unwrap-whole.result ≡ Some (whole_view c.base.result shape) = sym c.unwrap-whole.ensures ∙ c.whole.ensures ∙ whole_there c.base.result shape good in
+    let whole_is : Some c.unwrap-whole.result ≡ Some (whole_view c.base.result shape) = sym c.unwrap-whole.ensures ∙ c.whole.ensures.value ∙ whole_there c.base.result shape good in
     let same : c.unwrap-whole.result ≡ whole_view c.base.result shape = cc in
     let even : positions v.lengths ≡ positions shape = sym c.positions-2.ensures.value ∙ sym c.if-positions.false ∙ c.positions.ensures.value ∙ ap (λ (w : Strided). positions w.lengths) same in
     let in_order : is_consecutive v ≡ true = sym c.is_consecutive.ensures ∙ c.if-not-is_consecutive.false in
