@@ -7,3 +7,4 @@ pub mod Joins
 pub mod CutViews
 pub mod Wholes
 pub mod Consecutive
+pub mod Bases
