@@ -68,7 +68,7 @@ reshape v shape =
 
 -- ---- by strides
 
--- an element of a base of so many elements
+-- an element of a base of so many elements; no base has more than 1,048,576
 abbrev pub is_within : ℕ → ℤ → Bool
 is_within count z = is_place z && nat_lt (to_place z) count
 

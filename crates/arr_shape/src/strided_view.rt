@@ -1,7 +1,6 @@
 //! Views of a base by their strides.
-ghost use Rattle.std.specs.Prelude.{◌≡◌, ◌≤◌, IfOk, IsTrue, map, option_map, pos, length};
+ghost use Rattle.std.specs.Prelude.{◌≡◌, ◌≤◌, IfOk, IsTrue, map, nat_lt, option_map, pos, length};
 ghost use Rattle.std.specs.List.{list_all};
-ghost use Rattle.std.specs.Prelude.{nat_lt};
 ghost use Rattle.arr_view.specs.Strided.{Strided};
 ghost use Rattle.arr_view.specs.Views.{elements, places};
 ghost use Rattle.arr_shape.specs.Shapes.{is_shape};
