@@ -3,7 +3,7 @@
 
 use arr_shape::{
     ShapeFault, Slice, broadcast, checked_axis, checked_shape, reduced, reshape, slice, spread,
-    transpose,
+    strided, transpose,
 };
 use arr_view::{View, Walk};
 use std::process::Abort;
@@ -187,6 +187,35 @@ fn shapes(rt: HostRuntime) {
             assert!(&rt; both.lengths() == [2, 3].as_slice());
             assert!(&rt; less.lengths() == [2, 4].as_slice());
             assert!(&rt; one.lengths() == [1].as_slice());
+        }
+        _ => assert!(&rt; false),
+    }
+}
+
+#[test]
+fn views_by_strides(rt: HostRuntime) {
+    assert!(&rt; strided(0, 4, 1, &[4], &[1]).err() == Some(ShapeFault::OutsideBase));
+    assert!(&rt; strided(0, 4, 2, &[4], &[-1]).err() == Some(ShapeFault::OutsideBase));
+    assert!(&rt; strided(0, 4, 4, &[1], &[0]).err() == Some(ShapeFault::OutsideBase));
+    assert!(&rt; strided(0, 4, u64::MAX, &[1], &[0]).err() == Some(ShapeFault::OutsideBase));
+    assert!(&rt; strided(0, 4, 0, &[2], &[i128::MIN]).err() == Some(ShapeFault::OutsideBase));
+    assert!(&rt; strided(0, 4, 0, &[2], &[i128::MAX]).err() == Some(ShapeFault::OutsideBase));
+    assert!(&rt; strided(0, 4, 0, &[2, 2], &[1]).err() == Some(ShapeFault::RankRange));
+    assert!(&rt; strided(0, 4, u64::MAX, &[2], &[1, 1]).err() == Some(ShapeFault::RankRange));
+}
+
+#[test]
+fn elements_by_strides(rt: HostRuntime) {
+    match (
+        strided(0, 4, 3, &[4], &[-1]),
+        strided(0, 4, 3, &[1, 2], &[i128::MIN, -3]),
+        strided(0, 6, 1, &[2, 3], &[2, 1]),
+    ) {
+        (Ok(back), Ok(lone), Ok(across)) => {
+            check_elements(&rt, &back, &[3, 2, 1, 0]);
+            check_elements(&rt, &lone, &[3, 0]);
+            assert!(&rt; lone.strides() == [0, -3].as_slice());
+            check_elements(&rt, &across, &[1, 2, 3, 3, 4, 5]);
         }
         _ => assert!(&rt; false),
     }

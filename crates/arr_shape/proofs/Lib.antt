@@ -8,3 +8,4 @@ pub mod CutViews
 pub mod Wholes
 pub mod Consecutive
 pub mod Taken
+pub mod Bases

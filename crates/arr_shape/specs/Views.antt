@@ -1,11 +1,11 @@
 -- What becomes of views.
-use Rattle.std.specs.Prelude.{ℕ, ℤ, pos, ◌+ℤ◌, ◌*ℤ◌, ◌-◌, List, [], ◌∷◌, ◌++◌, Bool, true, false, ◌||◌, ◌&&◌, ◌==◌, not, nat_lt, nat_le, if◌then◌else◌, length, drop, replicate, reverse, Result, Ok, Err}
-use Rattle.std.specs.List.{range_with_len}
+use Rattle.std.specs.Prelude.{ℕ, ℤ, pos, ◌+ℤ◌, ◌*ℤ◌, ◌-◌, List, [], ◌∷◌, ◌++◌, Bool, true, false, ◌||◌, ◌&&◌, ◌==◌, not, nat_lt, nat_le, if◌then◌else◌, cond, length, drop, replicate, reverse, unsigned_abs, Option, Some, None, Result, Ok, Err}
+use Rattle.std.specs.List.{range_with_len, list_all}
 use Rattle.arr_view.specs.Strided.{Strided}
-use Rattle.arr_view.specs.Views.{elements, positions, same_lists, whole_strides}
+use Rattle.arr_view.specs.Views.{elements, places, positions, is_place, to_place, same_lists, whole_strides, kept_strides}
 use Rattle.arr_shape.specs.Shapes.{padded}
 use Rattle.arr_shape.specs.declared.fault.ShapeFault.{ShapeFault}
-use Rattle.arr_shape.specs.declared.fault.ShapeFault.TheVariants.{ShapeMismatch, NotContiguous, CountMismatch}
+use Rattle.arr_shape.specs.declared.fault.ShapeFault.TheVariants.{ShapeMismatch, RankRange, NotContiguous, CountMismatch, OutsideBase}
 
 -- ---- one element
 
@@ -74,3 +74,28 @@ reshape v shape =
     if not (positions v.lengths == positions shape) then Err CountMismatch
     else (if not (is_consecutive v) then Err NotContiguous
     else Ok (record { base = v.base; start = v.start; lengths = shape; strides = whole_strides shape }))
+
+-- ---- by strides
+
+-- an element of a base of so many elements; no base has more than 1,048,576
+abbrev pub is_within : ℕ → ℤ → Bool
+is_within count z = is_place z && nat_lt (to_place z) count
+
+-- the view of a base of `count` elements with these strides
+abbrev pub strided : ℕ → ℕ → ℕ → List ℕ → List ℤ → Result Strided ShapeFault
+strided base count start shape strides =
+    if not (length strides == length shape) then Err RankRange
+    else (if not (list_all (is_within count) (places shape strides (pos start))) then Err OutsideBase
+    else Ok (record { base = base; start = start; lengths = shape; strides = kept_strides shape strides }))
+
+-- a stride that can lead from one element of a base to another
+abbrev pub is_narrow : ℤ → Bool
+is_narrow s = nat_lt (unsigned_abs s) 1048576
+
+-- the stride that a view keeps, where it is narrow
+abbrev pub narrow : ℕ → ℤ → Option ℤ
+narrow n s = let kept = cond (n == 1) (pos 0) s in cond (is_narrow kept) (Some kept) None
+
+-- the strides that a view keeps, where all are narrow
+abbrev pub narrowed : List ℕ → List ℤ → Option (List ℤ)
+narrowed ns ss = cond (list_all is_narrow (kept_strides ns ss)) (Some (kept_strides ns ss)) None
