@@ -1,2 +1,4 @@
 pub mod Parts
 pub mod Marking
+pub mod Apart
+pub mod Ranges
