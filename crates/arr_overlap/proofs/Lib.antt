@@ -2,3 +2,4 @@ pub mod Parts
 pub mod Marking
 pub mod Apart
 pub mod Ranges
+pub mod Spacing

@@ -1,8 +1,9 @@
 //! What tells whether two views meet without a walk over their elements.
-ghost use Rattle.std.specs.Prelude.{◌≡◌, ◌==◌, ◌≤◌, ◌-◌, ◌*ℤ◌, pos, unsigned_abs, IfSome, IsTrue, Some, true, false};
+ghost use Rattle.std.specs.Prelude.{ℕ, ◌≡◌, ◌==◌, ◌≤◌, ◌-◌, ◌*ℤ◌, pos, unsigned_abs, IfSome, IsTrue, Some, true, false};
+ghost use Rattle.std.specs.Int.{IsGcd};
 ghost use Rattle.std.specs.List.{list_all};
 ghost use Rattle.arr_view.specs.Views.{elements, identical, is_view, overlap, share};
-ghost use Rattle.arr_overlap.specs.Filters.{lies};
+ghost use Rattle.arr_overlap.specs.Filters.{divides, is_spaced, lies};
 
 use crate::alike::identical;
 use arr_view::View;
@@ -53,8 +54,43 @@ fn lie_apart(a: &View, b: &View) -> bool
     a.greatest < b.least || b.greatest < a.least
 }
 
+/// The greatest common divisor of two numbers; that of 0 and a number is the number.
+fn common_divisor(a: u32, b: u32) -> u32
+    ensures { IsGcd a b result }
+{
+    let mut divisor = a;
+    let mut rest = b;
+    while rest != 0 {
+        let left = divisor % rest;
+        divisor = rest;
+        rest = left;
+    }
+    divisor
+}
+
+/// The greatest common divisor of a number and strides.
+fn spacing(number: u32, strides: &[i32]) -> u32
+    ensures number { IsTrue (divides result number) }
+    ensures strides { IsTrue (is_spaced result strides.now) }
+    ensures greatest { (d : ℕ) → IsTrue (divides d number) → IsTrue (is_spaced d strides.now) → IsTrue (divides d result) }
+{
+    let mut divisor = number;
+    for stride in strides {
+        divisor = common_divisor(divisor, stride.unsigned_abs());
+    }
+    divisor
+}
+
+/// Whether all strides of both views are multiples of a number above 1 that the difference of their starts is no multiple of.
+fn step_apart(a: &View, b: &View) -> bool
+    ensures { result ≡ true → share (elements a.now) (elements b.now) ≡ false }
+{
+    let step = spacing(spacing(0, a.strides()), b.strides());
+    step > 1 && a.start() % step != b.start() % step
+}
+
 /// Whether the views overlap, where that is told without a walk: views of different bases don't, identical views do, and views don't
-/// whose elements lie in ranges apart.
+/// whose elements lie in ranges apart or in steps that miss each other.
 pub(crate) fn decided(a: &View, b: &View) -> Option<bool>
     ensures value { IfSome result (λ r. r ≡ overlap a.now b.now) }
     ensures bases { (a.now.base == b.now.base) ≡ false → result ≡ Some false }
@@ -67,7 +103,7 @@ pub(crate) fn decided(a: &View, b: &View) -> Option<bool>
     if identical(a, b) {
         return Some(true);
     }
-    if lie_apart(a, b) {
+    if lie_apart(a, b) || step_apart(a, b) {
         return Some(false);
     }
     None
