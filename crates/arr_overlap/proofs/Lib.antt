@@ -1,2 +1,5 @@
 pub mod Parts
 pub mod Marking
+pub mod Apart
+pub mod Ranges
+pub mod Spacing

@@ -8,6 +8,7 @@
 #![tactic(auto)]
 
 mod alike;
+mod filters;
 mod meeting;
 
 pub use alike::identical;

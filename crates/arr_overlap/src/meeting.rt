@@ -3,6 +3,7 @@ ghost use Rattle.arr_view.specs.Views.{elements, is_view, overlap, repeats};
 ghost use Rattle.arr_overlap.specs.Marks.{Marks};
 
 use crate::NoMemory;
+use crate::filters::decided;
 use arr_sets::Bits;
 use arr_view::{View, Walk};
 use std::alloc::Global;
@@ -43,8 +44,8 @@ pub fn repeats(alloc: Global, view: &View) -> Result<bool, NoMemory>
 pub fn overlaps(alloc: Global, a: &View, b: &View) -> Result<bool, NoMemory>
     ensures { IfOk result (λ r. r ≡ overlap a.now b.now) }
 {
-    if a.base() != b.base() {
-        return Ok(false);
+    if let Some(told) = decided(a, b) {
+        return Ok(told);
     }
     let bits = marked(alloc, b)?;
     for element in Walk::new(a) {

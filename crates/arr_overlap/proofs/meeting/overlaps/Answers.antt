@@ -2,6 +2,7 @@ use Rattle.std.proofs.Common.{◌≡◌, ◌∙◌, ◌<◌, ap, sym, arith, rul
 use Rattle.arr_view.specs.Views.{elements, has, share}
 use Rattle.arr_overlap.specs.Marks.{most}
 use Rattle.arr_overlap.proofs.Marking.{at_end, below, meet_on, next_one, one_more, shared, unshared}
+use Rattle.arr_overlap.proofs.Apart.{undecided_base}
 use Rattle.arr_overlap.proofs.meeting.overlaps.Goals as goal
 
 pub loop-element-init : goal.loop-element-init
@@ -12,28 +13,28 @@ loop-element-init c = record {
 
 pub has-requires : goal.has-requires
 has-requires c =
-    let inside : c.in-Some.element < most = below c.args.a.now _ _ c.in-Some.element c.base.ensures.lawful (next_one _ _ _ _ _ c.loop-element.invariant.whole c.in-Some.ensures.steps) in
+    let inside : c.in-Some-element.element < most = below c.args.a.now _ _ c.in-Some-element.element c.decided.ensures.lawful.0 (next_one _ _ _ _ _ c.loop-element.invariant.whole c.in-Some-element.ensures.steps) in
     let long = c.in_ok-bits.ensures.long in
     omega arith
 
 pub returns-then-has : goal.returns-then-has
 returns-then-has c =
-    let inside : c.in-Some.element < most = below c.args.a.now _ _ c.in-Some.element c.base.ensures.lawful (next_one _ _ _ _ _ c.loop-element.invariant.whole c.in-Some.ensures.steps) in
-    let common : has (elements c.args.b.now) c.in-Some.element ≡ true = sym (c.in_ok-bits.ensures.each c.in-Some.element inside) ∙ sym c.has.ensures ∙ c.if-has.true in
-    sym (meet_on c.args.a.now c.args.b.now true (sym c.base.ensures.value ∙ c.if-base.false ∙ c.base-2.ensures.value)
-    (ap (λ es. share es (elements c.args.b.now)) (next_one _ _ _ _ _ c.loop-element.invariant.whole c.in-Some.ensures.steps)
-    ∙ shared c.loop-element.yielded c.next.new.self (elements c.args.b.now) c.in-Some.element common))
+    let inside : c.in-Some-element.element < most = below c.args.a.now _ _ c.in-Some-element.element c.decided.ensures.lawful.0 (next_one _ _ _ _ _ c.loop-element.invariant.whole c.in-Some-element.ensures.steps) in
+    let common : has (elements c.args.b.now) c.in-Some-element.element ≡ true = sym (c.in_ok-bits.ensures.each c.in-Some-element.element inside) ∙ sym c.has.ensures ∙ c.if-has.true in
+    sym (meet_on c.args.a.now c.args.b.now true (undecided_base c.args.a.now c.args.b.now c.decided.result c.decided.ensures.bases c.in_default.is)
+    (ap (λ es. share es (elements c.args.b.now)) (next_one _ _ _ _ _ c.loop-element.invariant.whole c.in-Some-element.ensures.steps)
+    ∙ shared c.loop-element.yielded c.next.new.self (elements c.args.b.now) c.in-Some-element.element common))
 
 pub loop-element-preserved : goal.loop-element-preserved
 loop-element-preserved c =
-    let inside : c.in-Some.element < most = below c.args.a.now _ _ c.in-Some.element c.base.ensures.lawful (next_one _ _ _ _ _ c.loop-element.invariant.whole c.in-Some.ensures.steps) in
+    let inside : c.in-Some-element.element < most = below c.args.a.now _ _ c.in-Some-element.element c.decided.ensures.lawful.0 (next_one _ _ _ _ _ c.loop-element.invariant.whole c.in-Some-element.ensures.steps) in
     record {
-      whole = one_more _ _ _ _ _ c.loop-element.invariant.whole c.in-Some.ensures.steps;
-      none = unshared c.loop-element.yielded (elements c.args.b.now) c.in-Some.element c.loop-element.invariant.none
-          (sym (c.in_ok-bits.ensures.each c.in-Some.element inside) ∙ sym c.has.ensures ∙ c.if-has.false);
+      whole = one_more _ _ _ _ _ c.loop-element.invariant.whole c.in-Some-element.ensures.steps;
+      none = unshared c.loop-element.yielded (elements c.args.b.now) c.in-Some-element.element c.loop-element.invariant.none
+          (sym (c.in_ok-bits.ensures.each c.in-Some-element.element inside) ∙ sym c.has.ensures ∙ c.if-has.false);
     }
 
 pub returns : goal.returns
 returns c =
-    sym (meet_on c.args.a.now c.args.b.now false (sym c.base.ensures.value ∙ c.if-base.false ∙ c.base-2.ensures.value)
+    sym (meet_on c.args.a.now c.args.b.now false (undecided_base c.args.a.now c.args.b.now c.decided.result c.decided.ensures.bases c.in_default.is)
     (ap (λ es. share es (elements c.args.b.now)) (at_end _ _ _ c.loop-element.invariant.whole (search rules)) ∙ c.loop-element.invariant.none))
