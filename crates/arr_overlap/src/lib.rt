@@ -8,9 +8,11 @@
 #![tactic(auto)]
 
 mod alike;
+mod classes;
 mod meeting;
 
 pub use alike::identical;
+pub use classes::Classes;
 pub use meeting::{overlaps, repeats};
 
 /// Want of memory.
