@@ -1,3 +1,4 @@
 pub mod Parts
 pub mod Marking
 mod ClassesSeen
+mod ClassesMeet

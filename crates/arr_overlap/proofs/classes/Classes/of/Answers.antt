@@ -1,5 +1,6 @@
-use Rattle.std.proofs.Common.{◌≡◌, sym, subst, arith, get_or}
+use Rattle.std.proofs.Common.{◌≡◌, ◌∙◌, ap, sym, subst, arith, get_or}
 use Rattle.arr_overlap.proofs.ClassesSeen.{all_seen, none_yet, one_more}
+use Rattle.arr_overlap.specs.Classes.{overlaps_among}
 use Rattle.arr_overlap.proofs.classes.Classes.of.Goals as goal
 
 pub loop-view-init : goal.loop-view-init
@@ -14,7 +15,7 @@ loop-view-preserved c =
 pub invariant_of-result : goal.invariant_of-result
 invariant_of-result c =
     let few = c.loop-view.invariant.few in
-    (omega arith, c.loop-view.invariant.lawful)
+    (omega arith, c.loop-view.invariant.lawful, c.in_ok-rows.ensures ∙ ap overlaps_among c.as_slice.ensures.keys)
 
 pub returns : goal.returns
 returns c = all_seen c.args.views.now c.loop-view.first_views.keys c.loop-view.view-index c.loop-view-test.false c.loop-view.invariant
