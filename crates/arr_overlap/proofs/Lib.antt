@@ -3,3 +3,5 @@ pub mod Marking
 pub mod Apart
 pub mod Ranges
 pub mod Spacing
+mod ClassesSeen
+mod ClassesMeet

@@ -22,6 +22,10 @@ at_seam : (test : ℕ → Bool) (front rest : List ℕ) (x : ℕ) → list_all t
 at_seam test [] rest x h = (and_parts (test x) _ h).0
 at_seam test (y ∷ front) rest x h = at_seam test front rest x (and_parts (test y) _ h).1
 
+pub elements_below : (v : Strided) → is_view v ≡ true → list_all (λ e. nat_lt e most) (elements v) ≡ true
+unfolding elements
+elements_below v law = all_below (places v.lengths v.strides (pos v.start)) (lawful v law).inside
+
 pub below : (v : Strided) (front rest : List ℕ) (x : ℕ) → is_view v ≡ true → elements v ≡ front ++ x ∷ rest → x < most
 unfolding elements
 below v front rest x law whole =

@@ -4,14 +4,20 @@
 //! `identical` compares the parts of the views and takes no memory. The two others mark the elements of one view in a row of bits and walk
 //! a view once; they answer want of memory where the row can't be had.
 //!
-//! The definitions are those of arr_view, specs/Views.antt; specs/Marks.antt says what a row of bits marks.
+//! `Classes` numbers the classes of identical views by first sight and knows of each two of them whether they overlap; only making it
+//! takes memory.
+//!
+//! The definitions are those of arr_view, specs/Views.antt; specs/Classes.antt says which views come first of their class, and
+//! specs/Marks.antt what a row of bits marks.
 #![tactic(auto)]
 
 mod alike;
 mod filters;
+mod classes;
 mod meeting;
 
 pub use alike::identical;
+pub use classes::Classes;
 pub use meeting::{overlaps, repeats};
 
 /// Want of memory.

@@ -12,7 +12,7 @@ use std::alloc::Global;
 const MOST: u32 = 1_048_576;
 
 /// The elements of a view, marked in a row of bits.
-fn marked(alloc: Global, view: &View) -> Result<Bits, NoMemory>
+pub(crate) fn marked(alloc: Global, view: &View) -> Result<Bits, NoMemory>
     requires { IsTrue (is_view view.now) }
     ensures { IfOk result (λ bits. Marks bits (elements view.now)) }
 {

@@ -11,7 +11,7 @@ use Rattle.std.specs.List.{list_all}
 use Rattle.arr_view.specs.Strided.{Strided}
 use Rattle.arr_shape.specs.declared.fault.ShapeFault.TheVariants.{ShapeMismatch}
 use Rattle.arr_shape.specs.Shapes.{padded}
-use Rattle.arr_shape.specs.Views.{place_at, is_index, narrowed, spread_from, spread, all_spread, spread_strides, padded_strides}
+use Rattle.arr_shape.specs.Views.{place_at, is_index, own_index, spread_from, spread, all_spread, spread_strides, padded_strides}
 use Rattle.arr_shape.proofs.Shapes.{IsShape, length-padded}
 use Rattle.arr_shape.proofs.Made.{Sound, strided_of, zero_is}
 use Rattle.arr_shape.proofs.Indexes.{index_length}
@@ -141,7 +141,7 @@ stays i s m n e f = by (n == m) (n == 1) e f
     by false false e f = absurd (let g : false ≡ true = e in cc)
 
 spread_place : (ms ns : List ℕ) (ss : List ℤ) (z : ℤ) (is : List ℕ) → all_spread ms ns ≡ true → strides_kept ns ss ≡ true → length ns ≡ length ms → length is ≡ length ms
-    → place_at z (spread_strides ms ns ss) is ≡ place_at z ss (narrowed ns is)
+    → place_at z (spread_strides ms ns ss) is ≡ place_at z ss (own_index ns is)
 spread_place [] [] [] z [] e f a b = refl
 spread_place [] [] [] z (i ∷ is) e f a b = absurd (omega arith)
 spread_place [] [] (s ∷ ss) z is e f a b = absurd (let g : false ≡ true = f in cc)
@@ -155,12 +155,12 @@ spread_place (m ∷ ms) (n ∷ ns) (s ∷ ss) z (i ∷ is) e f a b =
     ap (λ t. place_at (z +ℤ t) (spread_strides ms ns ss) is) (stays i s m n fits.0 kept.0) ∙ spread_place ms ns ss (z +ℤ (pos (cond (n == 1) 0 i) *ℤ s)) is fits.1 kept.1 (omega arith) (omega arith)
 
 front_place : (k : ℕ) (ns : List ℕ) (ss : List ℤ) (z : ℤ) (is : List ℕ) → k ≤ length is
-    → place_at z (replicate k (pos 0) ++ ss) (narrowed (replicate k 1 ++ ns) is) ≡ place_at z ss (narrowed ns (drop k is))
+    → place_at z (replicate k (pos 0) ++ ss) (own_index (replicate k 1 ++ ns) is) ≡ place_at z ss (own_index ns (drop k is))
 front_place zero ns ss z is h = refl
 front_place (suc k) ns ss z [] h = absurd (omega arith)
 front_place (suc k) ns ss z (i ∷ is) h =
     let still : z +ℤ pos 0 ≡ z = omega (arith, ints) in
-    ap (λ y. place_at y (replicate k (pos 0) ++ ss) (narrowed (replicate k 1 ++ ns) is)) still ∙ front_place k ns ss z is (omega arith)
+    ap (λ y. place_at y (replicate k (pos 0) ++ ss) (own_index (replicate k 1 ++ ns) is)) still ∙ front_place k ns ss z is (omega arith)
 
 pub spread_element : (start : ℕ) (ns : List ℕ) (ss : List ℤ) (shape : List ℕ) (same : length ss ≡ length ns) → Sound start ns ss → length ns ≤ length shape → all_spread shape (padded (length shape) ns) ≡ true
     → (index : List ℕ) → is_index shape index ≡ true
@@ -168,6 +168,6 @@ pub spread_element : (start : ℕ) (ns : List ℕ) (ss : List ℤ) (shape : List
 spread_element start ns ss shape same view wide fits index e =
     let long : length index ≡ length shape = index_length shape index e in
     spread_place shape (padded (length shape) ns) (padded_strides (length shape) ss) (pos start) index fits (own_kept start ns ss shape same view wide) (long_lengths start ns ss shape same view wide) long
-    ∙ ap (λ k. place_at (pos start) (replicate (length shape - k) (pos 0) ++ ss) (narrowed (padded (length shape) ns) index)) same
+    ∙ ap (λ k. place_at (pos start) (replicate (length shape - k) (pos 0) ++ ss) (own_index (padded (length shape) ns) index)) same
     ∙ front_place (length shape - length ns) ns ss (pos start) index (omega arith)
-    ∙ ap (λ k. place_at (pos start) ss (narrowed ns (drop (k - length ns) index))) (sym long)
+    ∙ ap (λ k. place_at (pos start) ss (own_index ns (drop (k - length ns) index))) (sym long)

@@ -49,13 +49,13 @@ spread v shape =
     else Err ShapeMismatch
 
 -- 0 for each dimension of length 1
-abbrev pub narrowed : List ℕ → List ℕ → List ℕ
-narrowed (n ∷ ns) (i ∷ is) = (if n == 1 then 0 else i) ∷ narrowed ns is
-narrowed _ _ = []
+abbrev pub own_index : List ℕ → List ℕ → List ℕ
+own_index (n ∷ ns) (i ∷ is) = (if n == 1 then 0 else i) ∷ own_index ns is
+own_index _ _ = []
 
 -- the index of a view with these lengths for an index of a shape that it is spread to: the last dimensions'
 abbrev pub spread_from : List ℕ → List ℕ → List ℕ
-spread_from ns index = narrowed ns (drop (length index - length ns) index)
+spread_from ns index = own_index ns (drop (length index - length ns) index)
 
 -- ---- turning round
 

@@ -1,0 +1,233 @@
+-- Which classes overlap.
+use Rattle.std.proofs.Common.{◌≡◌, ◌≢◌, ℕ, zero, suc, ◌+◌, ◌<◌, ◌≤◌, List, [], ◌∷◌, ◌++◌, Bool, true, false, length, take, map, set, get_or, replicate, refl, ap, ap₂, sym, subst, ◌∙◌, arith}
+use Rattle.std.specs.Prelude.{◌&&◌, ◌||◌, ◌==◌, nat_lt}
+use Rattle.std.specs.List.{list_all}
+use Rattle.std.proofs.lemmas.Bool.{and_parts, and_from, eqb-true, eq-eqb, ne_eqb, ltb-true, ltb-false, false≢true}
+use Rattle.std.proofs.lemmas.List.{get_or-set_same, get_or-set_other, length-set, length-append, length-replicate, take_all, take_more}
+use Rattle.arr_sets.specs.Bits.{meets}
+use Rattle.arr_view.specs.Strided.{Strided}
+use Rattle.arr_view.specs.Views.{elements, has, is_view, overlap, share}
+use Rattle.arr_overlap.specs.Classes.{MarkedUpTo, overlaps_among, view_at}
+use Rattle.arr_overlap.specs.Marks.{Marks, most}
+use Rattle.arr_overlap.proofs.Marking.{elements_below}
+
+-- ---- two rows of marks meet exactly where the lists share a number
+
+same_tests : (a b : Bool) → (a ≡ true → b ≡ true) → (b ≡ true → a ≡ true) → a ≡ b
+same_tests true b f g = sym (f refl)
+same_tests false true f g = g refl
+same_tests false false f g = refl
+
+-- a number that stands in both
+record Common (test other : ℕ → Bool) : Type 0 where
+  at : ℕ
+  here : test at ≡ true
+  there : other at ≡ true
+
+is_in : List Bool → ℕ → Bool
+is_in bits i = get_or bits i false
+
+or_cases : (a b : Bool) (P : Type 0) → (a || b) ≡ true → (a ≡ true → P) → (b ≡ true → P) → P
+or_cases true b P e f g = f refl
+or_cases false b P e f g = g e
+
+or_right : (a : Bool) → (a || true) ≡ true
+or_right true = refl
+or_right false = refl
+
+met_at : (xs ys : List Bool) → meets xs ys ≡ true → Common (λ i. get_or xs i false) (λ i. get_or ys i false)
+met_at [] ys e = absurd (false≢true e)
+met_at (x ∷ xs) [] e = absurd (false≢true e)
+met_at (x ∷ xs) (y ∷ ys) e =
+    or_cases (x && y) (meets xs ys) _ e
+    (λ h. let p = and_parts x y h in record { at = 0; here = p.0; there = p.1 })
+    (λ h. let r = met_at xs ys h in record { at = suc r.at; here = r.here; there = r.there })
+
+at_met : (xs ys : List Bool) (i : ℕ) → get_or xs i false ≡ true → get_or ys i false ≡ true → meets xs ys ≡ true
+at_met [] ys i h t = absurd (false≢true h)
+at_met (x ∷ xs) [] i h t = absurd (false≢true t)
+at_met (x ∷ xs) (y ∷ ys) zero h t = ap (λ b. b || meets xs ys) (and_from x y h t)
+at_met (x ∷ xs) (y ∷ ys) (suc i) h t = ap (λ b. (x && y) || b) (at_met xs ys i h t) ∙ or_right (x && y)
+
+shared_at : (es fs : List ℕ) → share es fs ≡ true → Common (has es) (has fs)
+shared_at [] fs e = absurd (false≢true e)
+shared_at (x ∷ es) fs e =
+    or_cases (has fs x) (share es fs) _ e
+    (λ h. record { at = x; here = ap (λ b. b || has es x) (eq-eqb x x refl); there = h })
+    (λ h. let r = shared_at es fs h in record { at = r.at; here = ap (λ b. (r.at == x) || b) r.here ∙ or_right (r.at == x); there = r.there })
+
+at_shared : (es fs : List ℕ) (x : ℕ) → has es x ≡ true → has fs x ≡ true → share es fs ≡ true
+at_shared [] fs x h t = absurd (false≢true h)
+at_shared (y ∷ es) fs x h t =
+    or_cases (x == y) (has es x) _ h
+    (λ e. ap (λ b. b || share es fs) (ap (has fs) (sym (eqb-true x y e)) ∙ t))
+    (λ e. ap (λ b. has fs y || b) (at_shared es fs x e t) ∙ or_right (has fs y))
+
+-- a bit that is set lies within the row
+bit_within : (bits : List Bool) (i : ℕ) → get_or bits i false ≡ true → i < length bits
+bit_within [] i e = absurd (false≢true e)
+bit_within (b ∷ bits) zero e = omega arith
+bit_within (b ∷ bits) (suc i) e = let h = bit_within bits i e in omega arith
+
+element_within : (es : List ℕ) (x : ℕ) → list_all (λ e. nat_lt e most) es ≡ true → has es x ≡ true → x < most
+element_within [] x all e = absurd (false≢true e)
+element_within (y ∷ es) x all e =
+    let p = and_parts (nat_lt y most) _ all in
+    or_cases (x == y) (has es x) _ e
+    (λ h. let same : x ≡ y = eqb-true x y h in let low : y < most = ltb-true y most p.0 in omega arith)
+    (λ h. element_within es x p.1 h)
+
+pub marks_meet : (bits others : List Bool) (es fs : List ℕ) → Marks bits es → Marks others fs → list_all (λ e. nat_lt e most) es ≡ true → meets bits others ≡ share es fs
+marks_meet bits others es fs m n below =
+    same_tests (meets bits others) (share es fs)
+    (λ e.
+    let r = met_at bits others e in
+    let long : length bits ≡ most = m.long in
+    let i : ℕ = r.at in
+    let low : i < length bits = bit_within bits r.at r.here in
+    let inside : i < most = omega arith in
+    at_shared es fs r.at (sym (m.each i inside) ∙ r.here) (sym (n.each i inside) ∙ r.there))
+    (λ e.
+    let r = shared_at es fs e in
+    let inside : r.at < most = element_within es r.at below r.here in
+    at_met bits others r.at (m.each r.at inside ∙ r.here) (n.each r.at inside ∙ r.there))
+
+-- ---- marks of one more view
+
+pub none_marked_yet : (views : List Strided) (marks : List (List Bool)) → marks ≡ [] → MarkedUpTo 0 marks views
+none_marked_yet views marks e = record { long = ap length e; each = λ i h. absurd (omega arith); lawful = λ i h. absurd (omega arith) }
+
+at_end : {A : Type 0} (xs : List A) (x d : A) → get_or (xs ++ x ∷ []) (length xs) d ≡ x
+at_end [] x d = refl
+at_end (y ∷ xs) x d = at_end xs x d
+
+before_end : {A : Type 0} (xs : List A) (x d : A) (i : ℕ) → i < length xs → get_or (xs ++ x ∷ []) i d ≡ get_or xs i d
+before_end [] x d i h = absurd (omega arith)
+before_end (y ∷ xs) x d zero h = refl
+before_end (y ∷ xs) x d (suc i) h = before_end xs x d i (omega arith)
+
+-- what holds below a number and at it holds below the next one
+next_too : (P : ℕ → Type 0) (n : ℕ) → ((i : ℕ) → i < n → P i) → P n → (i : ℕ) → i < n + 1 → P i
+next_too P n below here i h =
+    elim (nat_lt i n) as (λ b. nat_lt i n ≡ b → P i) [
+      | true ↦ λ e. below i (ltb-true i n e)
+      | false ↦ λ e. let le : n ≤ i = ltb-false i n e in subst P (let same : n ≡ i = omega arith in same) here
+    ] refl
+
+pub one_more_marked : (views : List Strided) (marks : List (List Bool)) (i : ℕ) (v : Strided) (row : List Bool)
+    → view_at views i ≡ v → is_view v ≡ true → Marks row (elements v) → MarkedUpTo i marks views → MarkedUpTo (i + 1) (marks ++ row ∷ []) views
+one_more_marked views marks i v row here law m known =
+    let long : length marks ≡ i = known.long in
+    record {
+      long = let l = length-append marks (row ∷ []) in omega arith;
+      each = next_too (λ k. Marks (get_or (marks ++ row ∷ []) k []) (elements (view_at views k))) i
+          (λ k h. subst (λ r. Marks r (elements (view_at views k))) (sym (before_end marks row [] k (omega arith))) (known.each k h))
+          (subst (λ r. Marks r (elements (view_at views i))) (sym (ap (λ n. get_or (marks ++ row ∷ []) n []) (sym long) ∙ at_end marks row [])) (subst (λ w. Marks row (elements w)) (sym here) m));
+      lawful = next_too (λ k. is_view (view_at views k) ≡ true) i known.lawful (ap is_view here ∙ law);
+    }
+
+-- ---- one row
+
+-- the row says of the first so many views which of them v overlaps, and has no other number
+pub record Row (v : Strided) (views : List Strided) (i : ℕ) (row : List Bool) : Type 0 where
+  pub long : length row ≡ length views
+  pub done : (k : ℕ) → k < i → get_or row k false ≡ overlap v (view_at views k)
+  pub rest : (k : ℕ) → i ≤ k → get_or row k false ≡ false
+
+no_bit : (n k : ℕ) → get_or (replicate n false) k false ≡ false
+no_bit zero k = refl
+no_bit (suc n) zero = refl
+no_bit (suc n) (suc k) = no_bit n k
+
+pub no_row_yet : (v : Strided) (views : List Strided) (row : List Bool) → row ≡ replicate (length views) false → Row v views 0 row
+no_row_yet v views row e = record {
+  long = ap length e ∙ length-replicate (length views) false;
+  done = λ k h. absurd (omega arith);
+  rest = λ k h. ap (λ r. get_or r k false) e ∙ no_bit (length views) k;
+}
+
+pub row_met : (v : Strided) (views : List Strided) (i : ℕ) (row : List Bool) → i < length views → overlap v (view_at views i) ≡ true → Row v views i row → Row v views (i + 1) (set row i true)
+row_met v views i row inside met known =
+    let long : length row ≡ length views = known.long in
+    record {
+      long = length-set row i true ∙ known.long;
+      done = next_too (λ k. get_or (set row i true) k false ≡ overlap v (view_at views k)) i
+          (λ k h. get_or-set_other row i k true false (omega arith) ∙ known.done k h)
+          (get_or-set_same row i true false (omega arith) ∙ sym met);
+      rest = λ k h. get_or-set_other row i k true false (omega arith) ∙ known.rest k (omega arith);
+    }
+
+pub row_apart : (v : Strided) (views : List Strided) (i : ℕ) (row : List Bool) → overlap v (view_at views i) ≡ false → Row v views i row → Row v views (i + 1) row
+row_apart v views i row apart known = record {
+  long = known.long;
+  done = next_too (λ k. get_or row k false ≡ overlap v (view_at views k)) i known.done (known.rest i (omega arith) ∙ sym apart);
+  rest = λ k h. known.rest k (omega arith);
+}
+
+by_places : (test : Strided → Bool) (row : List Bool) (views : List Strided) (d : Strided) → length row ≡ length views
+    → ((k : ℕ) → k < length views → get_or row k false ≡ test (get_or views k d)) → row ≡ map test views
+by_places test [] [] d long each = refl
+by_places test [] (w ∷ views) d long each = absurd (omega arith)
+by_places test (b ∷ row) [] d long each = absurd (omega arith)
+by_places test (b ∷ row) (w ∷ views) d long each =
+    ap₂ (λ x xs. x ∷ xs) (each 0 (omega arith)) (by_places test row views d (omega arith) (λ k h. each (suc k) (omega arith)))
+
+pub row_whole : (v : Strided) (views : List Strided) (i : ℕ) (row : List Bool) → length views ≤ i → Row v views i row → row ≡ map (overlap v) views
+row_whole v views i row end known = by_places (overlap v) row views _ known.long (λ k h. known.done k (omega arith))
+
+-- ---- a pair
+
+any_default : {A : Type 0} (xs : List A) (i : ℕ) (d e : A) → i < length xs → get_or xs i d ≡ get_or xs i e
+any_default [] i d e h = absurd (omega arith)
+any_default (x ∷ xs) zero d e h = refl
+any_default (x ∷ xs) (suc i) d e h = any_default xs i d e (omega arith)
+
+pub view_there : (views : List Strided) (i : ℕ) (v : Strided) → i < length views → v ≡ get_or views i v → view_at views i ≡ v
+view_there views i v h e = any_default views i _ v h ∙ sym e
+
+pub marks_there : (views : List Strided) (marks : List (List Bool)) (n i : ℕ) (row : List Bool) → MarkedUpTo n marks views → i < n → row ≡ get_or marks i row → row ≡ get_or marks i []
+marks_there views marks n i row known h e = let long : length marks ≡ n = known.long in e ∙ any_default marks i row [] (omega arith)
+
+pub as_long : (views : List Strided) (marks : List (List Bool)) (n i j : ℕ) (row other : List Bool) → MarkedUpTo n marks views → i < n → j < n
+    → row ≡ get_or marks i row → other ≡ get_or marks j other → length row ≡ length other
+as_long views marks n i j row other known li lj e f =
+    ap length (marks_there views marks n i row known li e) ∙ (known.each i li).long
+    ∙ sym (ap length (marks_there views marks n j other known lj f) ∙ (known.each j lj).long)
+
+pub bases_differ : (v w : Strided) → v.base ≢ w.base → overlap v w ≡ false
+bases_differ v w ne = ap (λ b. b && share (elements v) (elements w)) (ne_eqb v.base w.base ne)
+
+pub marks_decide : (views : List Strided) (marks : List (List Bool)) (n i j : ℕ) (b : Bool) → MarkedUpTo n marks views → i < n → j < n
+    → (view_at views i).base ≡ (view_at views j).base → b ≡ meets (get_or marks i []) (get_or marks j []) → overlap (view_at views i) (view_at views j) ≡ b
+marks_decide views marks n i j b known li lj same e =
+    let v = view_at views i in
+    let w = view_at views j in
+    ap₂ (λ x y. x && y) (eq-eqb v.base w.base same)
+    (sym (e ∙ marks_meet (get_or marks i []) (get_or marks j []) (elements v) (elements w) (known.each i li) (known.each j lj) (elements_below v (known.lawful i li))))
+
+-- ---- all rows
+
+map_end : {A B : Type 0} (f : A → B) (xs : List A) (x : A) → map f (xs ++ x ∷ []) ≡ map f xs ++ f x ∷ []
+map_end f [] x = refl
+map_end f (y ∷ xs) x = ap (λ r. f y ∷ r) (map_end f xs x)
+
+pub one_more_row : (views : List Strided) (rows : List (List Bool)) (i : ℕ) (row : List Bool) → i < length views
+    → rows ≡ map (λ v. map (overlap v) views) (take i views) → row ≡ map (overlap (view_at views i)) views
+    → rows ++ row ∷ [] ≡ map (λ v. map (overlap v) views) (take (i + 1) views)
+one_more_row views rows i row inside known e =
+    ap₂ (λ rs r. rs ++ r ∷ []) known e ∙ sym (map_end (λ v. map (overlap v) views) (take i views) (view_at views i))
+    ∙ ap (map (λ v. map (overlap v) views)) (sym (take_more views i _ inside))
+
+pub all_rows : (views : List Strided) (rows : List (List Bool)) (i : ℕ) → length views ≤ i → rows ≡ map (λ v. map (overlap v) views) (take i views) → rows ≡ overlaps_among views
+all_rows views rows i end known = known ∙ ap (map (λ v. map (overlap v) views)) (take_all i views end)
+
+map_at : {A B : Type 0} (f : A → B) (xs : List A) (i : ℕ) (d : A) (e : B) → i < length xs → get_or (map f xs) i e ≡ f (get_or xs i d)
+map_at f [] i d e h = absurd (omega arith)
+map_at f (x ∷ xs) zero d e h = refl
+map_at f (x ∷ xs) (suc i) d e h = map_at f xs i d e (omega arith)
+
+pub row_there : (views : List Strided) (rows : List (List Bool)) (a : ℕ) (row : List Bool) → rows ≡ overlaps_among views → a < length views → get_or rows a row ≡ map (overlap (view_at views a)) views
+row_there views rows a row e h = ap (λ rs. get_or rs a row) e ∙ map_at (λ v. map (overlap v) views) views a _ row h
+
+pub bit_there : (views : List Strided) (v : Strided) (b : ℕ) → b < length views → get_or (map (overlap v) views) b false ≡ overlap v (view_at views b)
+bit_there views v b h = map_at (overlap v) views b _ false h
