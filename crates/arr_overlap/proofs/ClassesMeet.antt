@@ -194,9 +194,6 @@ as_long views marks n i j row other known li lj e f =
     ap length (marks_there views marks n i row known li e) ∙ (known.each i li).long
     ∙ sym (ap length (marks_there views marks n j other known lj f) ∙ (known.each j lj).long)
 
-pub bases_differ : (v w : Strided) → v.base ≢ w.base → overlap v w ≡ false
-bases_differ v w ne = ap (λ b. b && share (elements v) (elements w)) (ne_eqb v.base w.base ne)
-
 pub marks_decide : (views : List Strided) (marks : List (List Bool)) (n i j : ℕ) (b : Bool) → MarkedUpTo n marks views → i < n → j < n
     → (view_at views i).base ≡ (view_at views j).base → b ≡ meets (get_or marks i []) (get_or marks j []) → overlap (view_at views i) (view_at views j) ≡ b
 marks_decide views marks n i j b known li lj same e =

@@ -4,6 +4,7 @@ ghost use Rattle.arr_view.specs.Views.{identical, is_view, overlap};
 ghost use Rattle.arr_overlap.specs.Classes.{firsts, overlaps_among, view_at, MarkedUpTo};
 
 use crate::NoMemory;
+use crate::filters::decided;
 use crate::meeting::marked;
 use arr_sets::Bits;
 use arr_view::View;
@@ -61,8 +62,8 @@ fn met(views: &[View], marks: &[Bits], at: usize, other: usize) -> bool
     requires marked { MarkedUpTo (length views.now) marks.now views.now }
     ensures { result ≡ overlap (view_at views.now at) (view_at views.now other) }
 {
-    if views[at].base() != views[other].base() {
-        return false;
+    if let Some(told) = decided(&views[at], &views[other]) {
+        return told;
     }
     marks[at].meets(&marks[other])
 }
