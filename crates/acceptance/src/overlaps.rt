@@ -2,7 +2,7 @@
 
 ghost use Rattle.std.specs.Prelude.{◌<◌};
 
-use arr_overlap::{identical, overlaps, repeats};
+use arr_overlap::{Classes, identical, overlaps, repeats};
 use arr_sets::Bits;
 use arr_view::{View, Walk};
 use std::alloc::Global;
@@ -65,6 +65,83 @@ fn small_views_meet_as_their_elements_do(rt: HostRuntime) -> Result<(), Fail> {
     Ok(())
 }
 
+/// The next number of a sequence that looks random, below a bound.
+fn draw(seed: &mut u32, bound: u32) -> u32
+    requires { 0 < bound }
+    ensures { result < bound }
+{
+    *seed = seed.wrapping_mul(1_103_515_245).wrapping_add(12_345);
+    (*seed >> 16) % bound
+}
+
+/// A stride from -3 to 3.
+fn draw_stride(seed: &mut u32) -> i32 {
+    draw(seed, 7) as i32 - 3
+}
+
+/// A view of base 7 of rank 1 to 3 with lengths up to 3, where the numbers drawn make one.
+fn draw_view(seed: &mut u32) -> Option<View> {
+    let start = draw(seed, 20);
+    let shape = [1 + draw(seed, 3), 1 + draw(seed, 3), 1 + draw(seed, 3)];
+    let strides = [draw_stride(seed), draw_stride(seed), draw_stride(seed)];
+    match draw(seed, 3) {
+        0 => View::new(7, start, &shape[..1], &strides[..1]),
+        1 => View::new(7, start, &shape[..2], &strides[..2]),
+        _ => View::new(7, start, &shape, &strides),
+    }
+}
+
+/// Whether two positions have one element, position by position.
+fn repeats_plainly(view: &View) -> bool {
+    for later in 0..view.positions() {
+        for earlier in 0..later {
+            if view.element(earlier) == view.element(later) {
+                return true;
+            }
+        }
+    }
+    false
+}
+
+#[test]
+fn drawn_views_meet_as_their_elements_do(rt: HostRuntime) -> Result<(), Fail> {
+    let alloc = rt.alloc();
+    let mut seed = 1;
+    for _ in 0..600 {
+        if let (Some(a), Some(b)) = (draw_view(&mut seed), draw_view(&mut seed)) {
+            agree(&rt, alloc, &a, &b)?;
+            assert_eq!(rt; repeats(alloc, &a)?, repeats_plainly(&a), "{a:?}");
+        }
+    }
+    Ok(())
+}
+
+#[test]
+fn ranges_and_steps_that_just_meet(rt: HostRuntime) -> Result<(), Fail> {
+    let alloc = rt.alloc();
+    for (left, right, meet) in [
+        (
+            (0u32, [3u32, 2], [2i32, 1]),
+            (5u32, [2u32, 2], [1i32, 1]),
+            true,
+        ),
+        ((0, [3, 2], [2, 1]), (6, [2, 2], [1, 1]), false),
+        ((9, [3, 2], [-2, -1]), (1, [2, 2], [1, 1]), false),
+        ((9, [3, 2], [-2, -1]), (1, [2, 2], [2, 1]), true),
+        ((0, [3, 2], [6, 4]), (1, [3, 2], [4, 6]), false),
+        ((0, [3, 2], [6, 4]), (2, [3, 2], [4, 6]), true),
+        ((0, [3, 2], [6, 4]), (1, [3, 2], [4, 3]), true),
+        ((4, [3, 2], [0, 0]), (4, [2, 2], [0, 0]), true),
+        ((4, [3, 2], [0, 0]), (5, [2, 2], [0, 0]), false),
+    ] {
+        let a = View::new(7, left.0, &left.1, &left.2).ok_or("left")?;
+        let b = View::new(7, right.0, &right.1, &right.2).ok_or("right")?;
+        assert_eq!(rt; meet_plainly(&a, &b), meet, "{a:?} {b:?}");
+        agree(&rt, alloc, &a, &b)?;
+    }
+    Ok(())
+}
+
 #[test]
 fn stripes_of_one_base(rt: HostRuntime) -> Result<(), Fail> {
     let alloc = rt.alloc();
@@ -78,6 +155,57 @@ fn stripes_of_one_base(rt: HostRuntime) -> Result<(), Fail> {
     let elsewhere = View::new(1, 0, &[3], &[2]).ok_or("elsewhere")?;
     assert_eq!(rt; overlaps(alloc, &twos, &elsewhere)?, false);
     assert_eq!(rt; identical(&twos, &elsewhere), false);
+    Ok(())
+}
+
+#[test]
+fn classes_count_by_first_sight(rt: HostRuntime) -> Result<(), Fail> {
+    let alloc = rt.alloc();
+    let mut views = Vec::new(alloc);
+    for (base, start, length, stride) in [
+        (0u32, 0u32, 3u32, 2i32),
+        (0, 1, 2, 3),
+        (0, 0, 3, 2),
+        (1, 0, 3, 2),
+        (0, 5, 1, 4),
+        (0, 5, 1, -1),
+    ] {
+        views.push(View::new(base, start, &[length], &[stride]).ok_or("view")?)?;
+    }
+    let classes = Classes::of(alloc, views.as_slice())?;
+    assert_eq!(rt; classes.count(), 4);
+    let mut found = Vec::new(alloc);
+    for view in &views {
+        found.push(classes.class(view).ok_or("class")?)?;
+    }
+    assert_eq!(rt; found.as_slice(), [0, 1, 0, 2, 3, 3].as_slice());
+    let elsewhere = View::new(2, 0, &[3], &[2]).ok_or("elsewhere")?;
+    assert_eq!(rt; classes.class(&elsewhere), None);
+    Ok(())
+}
+
+#[test]
+fn classes_meet_as_their_views_do(rt: HostRuntime) -> Result<(), Fail> {
+    let alloc = rt.alloc();
+    let mut views = Vec::new(alloc);
+    for (base, start, length, stride) in [
+        (0u32, 0u32, 524_288u32, 2i32),
+        (0, 1, 524_288, 2),
+        (0, 0, 3, 2),
+        (0, 1, 2, 3),
+        (1, 0, 3, 2),
+    ] {
+        views.push(View::new(base, start, &[length], &[stride]).ok_or("view")?)?;
+    }
+    let classes = Classes::of(alloc, views.as_slice())?;
+    for a in &views {
+        for b in &views {
+            if let (Some(first), Some(second)) = (classes.class(a), classes.class(b)) {
+                assert!(rt; first < classes.count() && second < classes.count());
+                assert_eq!(rt; classes.meets(first, second), overlaps(alloc, a, b)?, "{a:?} {b:?}");
+            }
+        }
+    }
     Ok(())
 }
 
@@ -105,11 +233,14 @@ fn bits_are_sets(rt: HostRuntime) -> Result<(), Fail> {
     let alloc = rt.alloc();
     let mut left = Bits::new(alloc, 200)?;
     let mut right = Bits::new(alloc, 200)?;
-    for number in [0, 63, 64, 127, 199] {
-        assert!(rt; !left.has(number));
-        left.insert(number);
-        assert!(rt; left.has(number));
-    }
+    assert!(rt; !left.has(64));
+    left.insert(0);
+    left.insert(63);
+    left.insert(64);
+    left.insert(199);
+    assert!(rt; left.has(0));
+    assert!(rt; left.has(64));
+    assert!(rt; !left.has(127));
     assert!(rt; !left.has(65));
     right.insert(65);
     right.insert(128);

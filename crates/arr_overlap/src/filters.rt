@@ -2,7 +2,7 @@
 ghost use Rattle.std.specs.Prelude.{ℕ, ◌≡◌, ◌==◌, ◌≤◌, ◌-◌, ◌*ℤ◌, pos, unsigned_abs, IfSome, IsTrue, Some, true, false};
 ghost use Rattle.std.specs.Int.{IsGcd};
 ghost use Rattle.std.specs.List.{list_all};
-ghost use Rattle.arr_view.specs.Views.{elements, identical, is_view, overlap, share};
+ghost use Rattle.arr_view.specs.Views.{elements, has, identical, is_view, overlap, share};
 ghost use Rattle.arr_overlap.specs.Filters.{divides, is_spaced, lies};
 
 use crate::alike::identical;
@@ -25,7 +25,9 @@ fn offset(steps: u32, stride: i32) -> i64
 
 /// The numbers from the least element of a view to its greatest.
 fn stretch(view: &View) -> Range
-    ensures { IsTrue (list_all (lies result.least result.greatest) (elements view.now)) }
+    ensures all { IsTrue (list_all (lies result.least result.greatest) (elements view.now)) }
+    ensures least { IsTrue (has (elements view.now) result.least) }
+    ensures greatest { IsTrue (has (elements view.now) result.greatest) }
 {
     let mut least = i64::from(view.start());
     let mut greatest = least;

@@ -6,7 +6,7 @@ use Rattle.arr_view.specs.Strided.{Strided}
 use Rattle.arr_view.specs.Views.{is_place}
 use Rattle.arr_view.proofs.Checks.{lawful, same_rank}
 use Rattle.arr_view.proofs.Places.{Turned, begins_inside, place_high, reach}
-use Rattle.arr_overlap.proofs.Ranges.{Ends, ends_all, ends_start, ends_turn}
+use Rattle.arr_overlap.proofs.Ranges.{Ends, ends_all, ends_are, ends_start, ends_turn}
 use Rattle.arr_overlap.proofs.filters.stretch.Goals as goal
 use Rattle.arr_overlap.proofs.filters.stretch.Goals.{then-stride-lt0, else-stride-lt0}
 
@@ -56,5 +56,12 @@ returns c =
     let high : ℤ = to_z w64 c.loop-axis.greatest-bits in
     let from : pos 0 ≤ℤ low = c.loop-axis.invariant.span.from in
     let order : low ≤ℤ high = c.loop-axis.invariant.span.order in
+    let low_is : low ≡ pos (unsigned_abs low) = omega (arith, ints) in
+    let high_is : high ≡ pos (unsigned_abs high) = omega (arith, ints) in
     let done : length v.lengths ≤ c.loop-axis.axis = subst (λ xs. length xs ≤ c.loop-axis.axis) c.shape-length-items.ensures.value c.loop-axis-test.false in
-    ends_all v c.loop-axis.axis low high (unsigned_abs low) (unsigned_abs high) c.start.ensures.lawful done c.loop-axis.invariant (omega (arith, ints)) (omega (arith, ints))
+    let both = ends_are v c.loop-axis.axis low high (unsigned_abs low) (unsigned_abs high) done c.loop-axis.invariant low_is high_is in
+    record {
+      all = ends_all v c.loop-axis.axis low high (unsigned_abs low) (unsigned_abs high) c.start.ensures.lawful done c.loop-axis.invariant low_is high_is;
+      least = both.0;
+      greatest = both.1;
+    }
