@@ -158,28 +158,28 @@ fn stripes_of_one_base(rt: HostRuntime) -> Result<(), Fail> {
     Ok(())
 }
 
+/// A view of one dimension.
+fn line(base: u32, start: u32, length: u32, stride: i32) -> Result<View, Fail> {
+    Ok(View::new(base, start, &[length], &[stride]).ok_or("line")?)
+}
+
 #[test]
 fn classes_count_by_first_sight(rt: HostRuntime) -> Result<(), Fail> {
-    let alloc = rt.alloc();
-    let mut views = Vec::new(alloc);
-    for (base, start, length, stride) in [
-        (0u32, 0u32, 3u32, 2i32),
-        (0, 1, 2, 3),
-        (0, 0, 3, 2),
-        (1, 0, 3, 2),
-        (0, 5, 1, 4),
-        (0, 5, 1, -1),
-    ] {
-        views.push(View::new(base, start, &[length], &[stride]).ok_or("view")?)?;
-    }
-    let classes = Classes::of(alloc, views.as_slice())?;
+    let views = [
+        line(0, 0, 3, 2)?,
+        line(0, 1, 2, 3)?,
+        line(0, 0, 3, 2)?,
+        line(1, 0, 3, 2)?,
+        line(0, 5, 1, 4)?,
+        line(0, 5, 1, -1)?,
+    ];
+    let classes = Classes::of(rt.alloc(), &views)?;
     assert_eq!(rt; classes.count(), 4);
-    let mut found = Vec::new(alloc);
-    for view in &views {
-        found.push(classes.class(view).ok_or("class")?)?;
-    }
-    assert_eq!(rt; found.as_slice(), [0, 1, 0, 2, 3, 3].as_slice());
-    let elsewhere = View::new(2, 0, &[3], &[2]).ok_or("elsewhere")?;
+    assert_eq!(rt; classes.class(&views[1]), Some(1));
+    assert_eq!(rt; classes.class(&views[2]), Some(0));
+    assert_eq!(rt; classes.class(&views[3]), Some(2));
+    assert_eq!(rt; classes.class(&views[5]), Some(3));
+    let elsewhere = line(2, 0, 3, 2)?;
     assert_eq!(rt; classes.class(&elsewhere), None);
     Ok(())
 }
@@ -187,22 +187,23 @@ fn classes_count_by_first_sight(rt: HostRuntime) -> Result<(), Fail> {
 #[test]
 fn classes_meet_as_their_views_do(rt: HostRuntime) -> Result<(), Fail> {
     let alloc = rt.alloc();
-    let mut views = Vec::new(alloc);
-    for (base, start, length, stride) in [
-        (0u32, 0u32, 524_288u32, 2i32),
-        (0, 1, 524_288, 2),
-        (0, 0, 3, 2),
-        (0, 1, 2, 3),
-        (1, 0, 3, 2),
-    ] {
-        views.push(View::new(base, start, &[length], &[stride]).ok_or("view")?)?;
-    }
-    let classes = Classes::of(alloc, views.as_slice())?;
+    let views = [
+        line(0, 0, 524_288, 2)?,
+        line(0, 1, 524_288, 2)?,
+        line(0, 0, 3, 2)?,
+        line(0, 1, 2, 3)?,
+        line(1, 0, 3, 2)?,
+    ];
+    let classes = Classes::of(alloc, &views)?;
     for a in &views {
         for b in &views {
             if let (Some(first), Some(second)) = (classes.class(a), classes.class(b)) {
                 assert!(rt; first < classes.count() && second < classes.count());
-                assert_eq!(rt; classes.meets(first, second), overlaps(alloc, a, b)?, "{a:?} {b:?}");
+                assert_eq!(rt;
+                    classes.meets(first, second),
+                    overlaps(alloc, a, b)?,
+                    "{a:?} {b:?}"
+                );
             }
         }
     }
