@@ -167,25 +167,27 @@ fn long_scripts_are_refused_behind_the_limit(rt: HostRuntime) -> Result<(), Fail
     Ok(())
 }
 
+/// Whether words that name no command get the usage line, and status 4 where it can't be written.
+fn are_unknown(rt: &impl Abort, alloc: Global, words: &[&str]) -> Result<(), NoMemory> {
+    let ran = run(alloc, words, SUM.as_bytes(), 1, 4096, 0)?;
+    assert_eq!(rt; ran.status, 2);
+    assert_eq!(rt; ran.written.as_slice(), USAGE.as_bytes());
+    let silent = run(alloc, words, SUM.as_bytes(), 1, 4096, 1)?;
+    assert_eq!(rt; silent.status, 4);
+    assert!(rt; silent.written.is_empty());
+    Ok(())
+}
+
 #[test]
 fn other_words_get_the_usage_line(rt: HostRuntime) -> Result<(), Fail> {
     let alloc = rt.alloc();
-    for words in [
-        [].as_slice(),
-        ["Run"].as_slice(),
-        ["run", "run"].as_slice(),
-        ["run", "--plan", "--cert"].as_slice(),
-        ["check"].as_slice(),
-        ["demo", "x"].as_slice(),
-        [""].as_slice(),
-    ] {
-        let ran = run(alloc, words, SUM.as_bytes(), 1, 4096, 0)?;
-        assert_eq!(rt; ran.status, 2);
-        assert_eq!(rt; ran.written.as_slice(), USAGE.as_bytes());
-        let silent = run(alloc, words, SUM.as_bytes(), 1, 4096, 1)?;
-        assert_eq!(rt; silent.status, 4);
-        assert!(rt; silent.written.is_empty());
-    }
+    are_unknown(&rt, alloc, &[])?;
+    are_unknown(&rt, alloc, &["Run"])?;
+    are_unknown(&rt, alloc, &["run", "run"])?;
+    are_unknown(&rt, alloc, &["run", "--plan", "--cert"])?;
+    are_unknown(&rt, alloc, &["check"])?;
+    are_unknown(&rt, alloc, &["demo", "x"])?;
+    are_unknown(&rt, alloc, &[""])?;
     Ok(())
 }
 
