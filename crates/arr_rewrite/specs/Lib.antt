@@ -1,0 +1,5 @@
+pub mod Rules
+pub mod Writers
+pub mod NextRewrite
+pub mod NormalForm
+pub mod Examples
