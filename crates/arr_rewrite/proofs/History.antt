@@ -164,6 +164,10 @@ identity_constant m op x z code none first second e =
 
 -- ---- 6: a base that copies a view
 
+pub length_read : (c : Option Cell) (es : List ℕ) → length (read c es) ≡ length es
+length_read None es = length-map es (λ p. pos 0)
+length_read (Some c) es = length-map es (λ p. get_or c.numbers p (pos 0))
+
 pub copy_shows : (k : Memory) (w : Op) (o x v : Strided) (between : List Op) → Wrote w o between → w.code ≡ Identity → w.first ≡ Some (Array v) → w.second ≡ None
     → CellFits w.to (k.bases v.base) → length (elements v) ≡ positions o.lengths
     → x.base ≡ o.base → elements x ≡ range_with_len 0 (positions o.lengths) → Spared w v → AllByRecursion (λ f. Spared f v) between
@@ -180,10 +184,6 @@ copy_shows k w o x v between h code first second fits size b whole spared rest =
     written_shows k w o x between h b (whole ∙ ap (range_with_len 0) (sym (ap length got ∙ long)))
     ∙ got
     ∙ sym (view_left v between (step k w) rest ∙ read_spared w (computed k w) v (k.bases v.base) spared)
-  where
-    length_read : (c : Option Cell) (es : List ℕ) → length (read c es) ≡ length es
-    length_read None es = length-map es (λ p. pos 0)
-    length_read (Some c) es = length-map es (λ p. get_or c.numbers p (pos 0))
 
 first_numbers_same : (code : Code) (m : Memory) (n : ℕ) (x v : Strided) → read (m.bases x.base) (elements x) ≡ read (m.bases v.base) (elements v)
     → first_numbers code m n (Some (Array x)) ≡ first_numbers code m n (Some (Array v))

@@ -27,6 +27,7 @@ use Rattle.arr_rewrite.proofs.Options.{some_true, some_same}
 use Rattle.arr_rewrite.proofs.Replace.{to_changed, computed_scalar, walk_length}
 use Rattle.arr_rewrite.proofs.Kept.{same_step, KeepsMemory}
 use Rattle.arr_rewrite.proofs.KeptHistory.{at_first}
+use Rattle.arr_rewrite.proofs.History.{length_read}
 
 power_none : (x : ℤ) → int_pow x 0 ≡ pos 1
 power_none (pos n) = ap pos (pow-zero n)
@@ -64,10 +65,6 @@ unfolding value
 zip_two t [] n e = refl
 zip_two t (x ∷ xs) zero e = absurd (omega arith)
 zip_two t (x ∷ xs) (suc n) e = let p = ap (wrap t) (power_two x) in let q = zip_two t xs n (omega arith) in λ i. p i ∷ q i
-
-length_read : (c : Option Cell) (es : List ℕ) → length (read c es) ≡ length es
-length_read None es = length-map es (λ p. pos 0)
-length_read (Some c) es = length-map es (λ p. get_or c.numbers p (pos 0))
 
 power_step : (m : Memory) (op next : Op) (code : Code) (first second : Option Operand) → op.slot ≡ None → op.code ≡ code → op.first ≡ first → op.second ≡ second
     → ((x : Strided) → first ≡ Some (Array x) → length (elements x) ≡ walk_length op) → small_power code op first second ≡ Some next → step m op ≡ step m next

@@ -1,6 +1,7 @@
 pub mod Options
 pub mod Scalars
 pub mod Fixed
+pub mod Codes
 pub mod Joins
 pub mod Agree
 pub mod Replace
@@ -16,3 +17,5 @@ pub mod KeptCopies
 pub mod KeptJoins
 pub mod KeptOthers
 pub mod KeptPowers
+pub mod KeptFixed
+pub mod NextKeeps

@@ -19,6 +19,7 @@ use Rattle.arr_ops.specs.declared.op.Op.{Op}
 use Rattle.arr_ops.specs.declared.op.Operand.{Operand}
 use Rattle.arr_ops.specs.declared.op.Operand.TheVariants.{Array, Number}
 use Rattle.arr_num.proofs.Wrapping.{wrap_same}
+use Rattle.arr_rewrite.proofs.Codes.{neutral_right_code, neutral_left_code}
 use Rattle.arr_rewrite.proofs.Options.{some_true, some_same}
 use Rattle.arr_rewrite.proofs.Scalars.{value_identity, neutral_right_law, neutral_left_law}
 use Rattle.arr_ops.proofs.Typed.{AllIn, CellFits, read_in}
@@ -88,36 +89,6 @@ zip_left t f c h (x ∷ xs) (suc n) a =
     let q = zip_left t f c h xs n a.1 in
     λ i. p i ∷ q i
 
--- such codes are scalar, and of one type
-pub neutral_right_scalar : (code : Code) (t : Elem) (c : ℤ) → neutral_right code t c ≡ true → is_scalar (kind code) ≡ true
-neutral_right_scalar Add t c h = refl
-neutral_right_scalar Subtract t c h = refl
-neutral_right_scalar Multiply t c h = refl
-neutral_right_scalar Divide t c h = refl
-neutral_right_scalar BitwiseAnd t c h = refl
-neutral_right_scalar BitwiseOr t c h = refl
-neutral_right_scalar BitwiseXor t c h = refl
-neutral_right_scalar LeftShift t c h = refl
-neutral_right_scalar RightShift t c h = refl
-neutral_right_scalar Maximum t c h = refl
-neutral_right_scalar Minimum t c h = refl
-neutral_right_scalar _ t c h = absurd (false≢true h)
-
-pub neutral_left_scalar : (code : Code) (t : Elem) (c : ℤ) → neutral_left code t c ≡ true → is_scalar (kind code) ≡ true
-neutral_left_scalar Add t c h = refl
-neutral_left_scalar Multiply t c h = refl
-neutral_left_scalar BitwiseAnd t c h = refl
-neutral_left_scalar BitwiseOr t c h = refl
-neutral_left_scalar BitwiseXor t c h = refl
-neutral_left_scalar Maximum t c h = refl
-neutral_left_scalar Minimum t c h = refl
-neutral_left_scalar _ t c h = absurd (false≢true h)
-
--- what an operation reads is of the type that it writes
-pub record Held (m : Memory) (op : Op) : Type 0 where
-  pub no_slot : op.slot ≡ None
-  pub held : AllByRecursion (λ (v : Strided). CellFits op.to (m.bases v.base)) (inputs op)
-
 pub neutral_keeps : (m : Memory) (op next : Op) (first second : Option Operand) → op.first ≡ first → op.second ≡ second → op.slot ≡ None
     → AllByRecursion (λ (v : Strided). CellFits op.to (m.bases v.base)) (view_of first ++ view_of second)
     → neutral_beside op first second ≡ Some next → step m op ≡ step m next
@@ -125,7 +96,7 @@ neutral_keeps m op next (Some (Array x)) (Some (Number c)) p q none h e =
     let test : neutral_right op.code op.to c ≡ true = some_true (neutral_right op.code op.to c) (copy_op op x) next e in
     let n : ℕ = walk_length op in
     to_changed m op Identity op.from (Some (Array x)) None none
-    (computed_scalar m op (neutral_right_scalar op.code op.to c test)
+    (computed_scalar m op (ap is_scalar (neutral_right_code op.code op.to c test).binary)
     ∙ ap₂ (λ a b. zip_with (value op.code op.to) (operand m n a) (operand m n b)) p q
     ∙ zip_right op.to (value op.code op.to) c (λ z k. neutral_right_law op.code op.to z c k test) (read (m.bases x.base) (elements x)) n (read_in op.to (m.bases x.base) (elements x) h.0)
     ∙ sym (computed_scalar m (copy_op op x) refl))
@@ -134,7 +105,7 @@ neutral_keeps m op next (Some (Number c)) (Some (Array x)) p q none h e =
     let test : neutral_left op.code op.to c ≡ true = some_true (neutral_left op.code op.to c) (copy_op op x) next e in
     let n : ℕ = walk_length op in
     to_changed m op Identity op.from (Some (Array x)) None none
-    (computed_scalar m op (neutral_left_scalar op.code op.to c test)
+    (computed_scalar m op (ap is_scalar (neutral_left_code op.code op.to c test).binary)
     ∙ ap₂ (λ a b. zip_with (value op.code op.to) (operand m n a) (operand m n b)) p q
     ∙ zip_left op.to (value op.code op.to) c (λ z k. neutral_left_law op.code op.to z c k test) (read (m.bases x.base) (elements x)) n (read_in op.to (m.bases x.base) (elements x) h.0)
     ∙ sym (computed_scalar m (copy_op op x) refl))
