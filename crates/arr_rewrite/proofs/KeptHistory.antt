@@ -67,7 +67,7 @@ unwritten_outputs b None h = tt
 unwritten_outputs b (Some o) h = (or_left (o.base == b) false (turned_not ((o.base == b) || false) h), tt)
 
 -- f frees no base that op names
-unfreed_base : (frees : Option ℕ) (names : List ℕ) (b : ℕ) → list_all (λ k. not (has names k)) (option_to_list frees) ≡ true → has names b ≡ true → has (option_to_list frees) b ≡ false
+pub unfreed_base : (frees : Option ℕ) (names : List ℕ) (b : ℕ) → list_all (λ k. not (has names k)) (option_to_list frees) ≡ true → has names b ≡ true → has (option_to_list frees) b ≡ false
 unfreed_base None names b h t = refl
 unfreed_base (Some k) names b h t =
     elim (nat_eq b k) as (λ x. nat_eq b k ≡ x → (x || false) ≡ false) [

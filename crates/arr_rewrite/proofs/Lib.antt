@@ -19,3 +19,5 @@ pub mod KeptOthers
 pub mod KeptPowers
 pub mod KeptFixed
 pub mod NextKeeps
+pub mod Parts
+pub mod Sources

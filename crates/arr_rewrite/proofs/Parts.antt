@@ -1,0 +1,68 @@
+-- Lists taken apart and put together, and tests on them.
+use Rattle.std.proofs.Common.{◌≡◌, ℕ, List, [], ◌∷◌, ◌++◌, Bool, true, false, cond, not, ◌||◌, ◌&&◌, refl, ap, ap₂, sym, ◌∙◌, Option, Some, None, map}
+use Rattle.std.proofs.lemmas.Bool.{false≢true, eqb-true, eq-eqb}
+use Rattle.std.specs.Prelude.{◌==◌, nat_eq}
+use Rattle.std.specs.List.{AllByRecursion, list_all, list_any, filter}
+use Rattle.arr_view.specs.Strided.{Strided}
+use Rattle.arr_view.specs.Views.{has}
+use Rattle.arr_ops.specs.declared.op.Op.{Op}
+use Rattle.arr_ops.proofs.Pairs.{Pairs, All_weaker}
+use Rattle.arr_ops.proofs.Tests.{all_of, test_all}
+use Rattle.arr_ops.proofs.Spots.{all_two}
+use Rattle.arr_ops.proofs.Writes.{or_left, or_right}
+
+-- v is one of these
+abbrev pub Among : {X : Type 0} → List X → X → Type 1
+Among {X} xs v = (P : X → Type 0) → AllByRecursion P xs → P v
+
+pub all_among : {X : Type 0} (P : X → Type 0) (xs : List X) → ((v : X) → Among xs v → P v) → AllByRecursion P xs
+all_among P [] h = tt
+all_among P (x ∷ xs) h = (h x (λ Q a. a.0), all_among P xs (λ v k. h v (λ Q a. k Q a.1)))
+
+pub all_join : {X : Type 0} (P : X → Type 0) (xs ys : List X) → AllByRecursion P xs → AllByRecursion P ys → AllByRecursion P (xs ++ ys)
+all_join P [] ys a b = b
+all_join P (x ∷ xs) ys a b = (a.0, all_join P xs ys a.1 b)
+
+pub map_all : {X Y : Type 0} (P : Y → Type 0) (f : X → Y) (xs : List X) → AllByRecursion (λ x. P (f x)) xs → AllByRecursion P (map f xs)
+map_all P f [] h = tt
+map_all P f (x ∷ xs) h = (h.0, map_all P f xs h.1)
+
+pub all_true : {X : Type 0} (P : X → Type 0) → ((x : X) → P x) → (xs : List X) → AllByRecursion P xs
+all_true P h [] = tt
+all_true P h (x ∷ xs) = (h x, all_true P h xs)
+
+-- rows turned into columns
+pub turned : {X Y : Type 0} (R : X → Y → Type 0) (xs : List X) (ys : List Y) → AllByRecursion (λ x. AllByRecursion (R x) ys) xs → AllByRecursion (λ y. AllByRecursion (λ x. R x y) xs) ys
+turned R [] ys h = all_true (λ y. AllByRecursion (λ x. R x y) []) (λ y. tt) ys
+turned R (x ∷ xs) ys h = all_two (R x) (λ y. AllByRecursion (λ x. R x y) xs) (λ y. AllByRecursion (λ x. R x y) (x ∷ xs)) (λ y a b. (a, b)) ys h.0 (turned R xs ys h.1)
+
+pub all_replaced : {X : Type 0} (P : X → Type 0) (front back : List X) (x y : X) → (P x → P y) → AllByRecursion P (front ++ x ∷ back) → AllByRecursion P (front ++ y ∷ back)
+all_replaced P [] back x y g h = (g h.0, h.1)
+all_replaced P (f ∷ front) back x y g h = (h.0, all_replaced P front back x y g h.1)
+
+pub pairs_replaced : {X : Type 0} (R : X → X → Type 0) (front back : List X) (x y : X) → AllByRecursion (λ f. R f x → R f y) front → AllByRecursion (λ g. R x g → R y g) back
+    → Pairs R (front ++ x ∷ back) → Pairs R (front ++ y ∷ back)
+pairs_replaced R [] back x y a b h = (all_two (λ g. R x g → R y g) (R x) (R y) (λ g k r. k r) back b h.0, h.1)
+pairs_replaced R (f ∷ front) back x y a b h = (all_replaced (R f) front back x y a.0 h.0, pairs_replaced R front back x y a.1 b h.1)
+
+pub not_is : (y : Bool) → not y ≡ true → y ≡ false
+not_is true h = absurd (false≢true h)
+not_is false h = refl
+
+pub weaker_or : (t a b : Bool) → (a ≡ true → b ≡ true) → (not t || a) ≡ true → (not t || b) ≡ true
+weaker_or true a b f h = f h
+weaker_or false a b f h = refl
+
+pub list_weaker : {X : Type 0} (p q : X → Bool) → ((x : X) → p x ≡ true → q x ≡ true) → (xs : List X) → list_all p xs ≡ true → list_all q xs ≡ true
+list_weaker p q f xs h = test_all q xs (All_weaker (λ x. p x ≡ true) (λ x. q x ≡ true) f xs (all_of p xs h))
+
+pub none_of : (b : ℕ) (xs : List ℕ) → has xs b ≡ false → AllByRecursion (λ x. nat_eq b x ≡ false) xs
+none_of b [] h = tt
+none_of b (x ∷ xs) h = (or_left (nat_eq b x) (has xs b) h, none_of b xs (or_right (nat_eq b x) (has xs b) h))
+
+pub of_none : (b : ℕ) (xs : List ℕ) → AllByRecursion (λ x. nat_eq b x ≡ false) xs → has xs b ≡ false
+of_none b [] h = refl
+of_none b (x ∷ xs) h = ap₂ (λ p q. p || q) h.0 (of_none b xs h.1)
+
+pub equal_turned : (a b : ℕ) → (a == b) ≡ false → (b == a) ≡ false
+equal_turned a b h = elim (b == a) as (λ t. (b == a) ≡ t → t ≡ false) [ true ↦ λ e. absurd (false≢true (sym h ∙ eq-eqb a b (sym (eqb-true b a e)))) | false ↦ λ e. refl ] refl
