@@ -265,6 +265,7 @@ constants_shown k w op o x v between h code to scalar joins none first source b 
     length_read : (c : Option Cell) (es : List ℕ) → length (read c es) ≡ length es
     length_read None es = length-map es (λ p. pos 0)
     length_read (Some c) es = length-map es (λ p. get_or c.numbers p (pos 0))
+
     length_zip : (f : ℤ → ℤ → ℤ) (xs : List ℤ) (n : ℕ) (d : ℤ) → length xs ≡ n → length (zip_with f xs (replicate n d)) ≡ n
     length_zip f [] zero d e = refl
     length_zip f [] (suc n) d e = absurd (omega arith)

@@ -110,7 +110,7 @@ power_unrolled_keeps m front back op next h f e =
     let el : elementwise op ≡ true = scalar_elementwise (kind op.code) op (power_scalar op.code op next op.first op.second e) (operands_of op well) in
     by_output (λ k. eager m (front ++ op ∷ back) ≡ eager m (front ++ next ∷ back)) op
     (λ o out. let p : Plain op o = plain_at op o out well el in
-      same_step m front back op next
-      (power_step (eager m front) op next op.code op.first op.second p.no_slot refl refl refl
-        (λ x first. at_first (λ (v : Strided). length (elements v) ≡ positions o.lengths) op x first p.sizes ∙ sym (ap (λ u. positions (out_lengths u)) out)) e))
+    same_step m front back op next
+    (power_step (eager m front) op next op.code op.first op.second p.no_slot refl refl refl
+    (λ x first. at_first (λ (v : Strided). length (elements v) ≡ positions o.lengths) op x first p.sizes ∙ sym (ap (λ u. positions (out_lengths u)) out)) e))
     (both_left (is_some op.out) _ (both_right (plain op) _ el))
