@@ -1,8 +1,11 @@
 //! Rewriting: a recorded list becomes a shorter or cheaper one that leaves the same memory.
 #![tactic(auto)]
 
+mod carried;
 mod rules;
 mod tables;
+mod unused;
+mod writers;
 
 /// Want of memory.
 pub use std::alloc::AllocError as NoMemory;

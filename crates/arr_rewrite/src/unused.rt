@@ -1,0 +1,91 @@
+//! Bases that nothing uses.
+ghost use Rattle.std.specs.Prelude.{◌≡◌, ◌&&◌, ◌||◌, not, map};
+ghost use Rattle.std.specs.Option.{option_to_list};
+ghost use Rattle.std.specs.List.{list_all, list_any};
+ghost use Rattle.arr_view.specs.Views.{has};
+ghost use Rattle.arr_ops.specs.Ops.{named, view_of};
+ghost use Rattle.arr_rewrite.specs.NextRewrite.{frees_base, only_freed, unfreed};
+
+use arr_ops::{Op, Operand};
+use arr_view::View;
+
+/// Whether the operation names the base.
+fn names(op: &Op, base: u32) -> bool
+    ensures { result ≡ has (named op.now) base }
+{
+    is_of(&op.out, base)
+        || reads_base(&op.first, base)
+        || reads_base(&op.second, base)
+        || op.frees == Some(base)
+}
+
+fn is_of(view: &Option<View>, base: u32) -> bool
+    ensures { result ≡ has (map (λ v. v.base) (option_to_list view.now)) base }
+{
+    match view {
+        Some(view) => base == view.base(),
+        None => false,
+    }
+}
+
+fn reads_base(operand: &Option<Operand>, base: u32) -> bool
+    ensures { result ≡ has (map (λ v. v.base) (view_of operand.now)) base }
+{
+    match operand {
+        Some(Operand::Array(view)) => base == view.base(),
+        _ => false,
+    }
+}
+
+fn frees_base(op: &Op, base: u32) -> bool
+    ensures { result ≡ frees_base op.now base }
+{
+    op.frees == Some(base)
+}
+
+fn unnamed(ops: &[Op], base: u32) -> bool
+    ensures { result ≡ list_all (λ f. not (has (named f) base)) ops.now }
+{
+    ops.iter().all(|op| !names(op, base))
+}
+
+/// Whether some operation frees the base.
+fn is_freed(ops: &[Op], base: u32) -> bool
+    ensures { result ≡ list_any (λ f. frees_base f base) ops.now }
+{
+    ops.iter().any(|op| frees_base(op, base))
+}
+
+fn frees_or_leaves(op: &Op, base: u32) -> bool
+    ensures { result ≡ (frees_base op.now base || not (has (named op.now) base)) }
+{
+    frees_base(op, base) || !names(op, base)
+}
+
+/// Whether those that don't free the base don't name it.
+fn else_unnamed(ops: &[Op], base: u32) -> bool
+    ensures { result ≡ list_all (λ f. frees_base f base || not (has (named f) base)) ops.now }
+{
+    ops.iter().all(|op| frees_or_leaves(op, base))
+}
+
+/// Whether some operation frees the base, and the others don't name it.
+fn only_freed(ops: &[Op], base: u32) -> bool
+    ensures { result ≡ only_freed ops.now base }
+{
+    is_freed(ops, base) && else_unnamed(ops, base)
+}
+
+/// Whether a creator's base is named by nothing but what frees it.
+pub(crate) fn is_unused(front: &[Op], op: &Op, back: &[Op], base: u32) -> bool
+    ensures { result ≡ (op.now.makes && (list_all (λ f. not (has (named f) base)) front.now && only_freed back.now base)) }
+{
+    op.makes && unnamed(front, base) && only_freed(back, base)
+}
+
+/// Takes out what frees the base.
+pub(crate) fn remove_frees(list: &mut Vec<Op>, base: u32)
+    ensures { list.new.items ≡ unfreed list.old.items base }
+{
+    list.retain(|op| !frees_base(op, base));
+}
