@@ -22,3 +22,4 @@ pub mod NextKeeps
 pub mod Parts
 pub mod Sources
 pub mod Folding
+pub mod Joining

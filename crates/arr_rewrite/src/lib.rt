@@ -2,6 +2,8 @@
 #![tactic(auto)]
 
 mod carried;
+mod joined;
+mod replaced;
 mod rules;
 mod tables;
 mod unused;

@@ -1,10 +1,10 @@
 //! Bases that nothing uses.
-ghost use Rattle.std.specs.Prelude.{◌≡◌, ◌&&◌, ◌||◌, not, map};
-ghost use Rattle.std.specs.Option.{option_to_list};
+ghost use Rattle.std.specs.Prelude.{◌≡◌, ◌&&◌, ◌||◌, ◌++◌, not, map};
+ghost use Rattle.std.specs.Option.{option_map, option_to_list};
 ghost use Rattle.std.specs.List.{list_all, list_any};
 ghost use Rattle.arr_view.specs.Views.{has};
 ghost use Rattle.arr_ops.specs.Ops.{named, view_of};
-ghost use Rattle.arr_rewrite.specs.NextRewrite.{frees_base, only_freed, unfreed};
+ghost use Rattle.arr_rewrite.specs.NextRewrite.{frees_base, only_freed, unfreed, unused};
 
 use arr_ops::{Op, Operand};
 use arr_view::View;
@@ -88,4 +88,21 @@ pub(crate) fn remove_frees(list: &mut Vec<Op>, base: u32)
     ensures { list.new.items ≡ unfreed list.old.items base }
 {
     list.retain(|op| !frees_base(op, base));
+}
+
+/// The base of a creator that nothing uses.
+pub(crate) fn unused_base(front: &[Op], op: &Op, back: &[Op]) -> Option<u32>
+    ensures { unused front.now op.now back.now op.now.out ≡ option_map (λ b. front.now ++ unfreed back.now b) result }
+{
+    match &op.out {
+        Some(out) => {
+            let base = out.base();
+            if is_unused(front, op, back, base) {
+                Some(base)
+            } else {
+                None
+            }
+        }
+        None => None,
+    }
 }
