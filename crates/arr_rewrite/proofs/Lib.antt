@@ -21,3 +21,4 @@ pub mod KeptFixed
 pub mod NextKeeps
 pub mod Parts
 pub mod Sources
+pub mod Changed
