@@ -22,7 +22,7 @@ use Rattle.arr_rewrite.specs.Rules.{changed_op}
 use Rattle.arr_rewrite.proofs.Parts.{all_join, map_all, all_true, turned, all_replaced, pairs_replaced, not_is, weaker_or, list_weaker, none_of, of_none, equal_turned}
 use Rattle.arr_rewrite.proofs.Sources.{Reads, Agrees, lies_in, need_of, whole_of}
 
-same_itself : (t : Elem) → same_elem t t ≡ true
+pub same_itself : (t : Elem) → same_elem t t ≡ true
 same_itself U8 = refl
 same_itself I32 = refl
 same_itself I64 = refl
@@ -35,6 +35,9 @@ tested a b s t h =
       | true ↦ λ e. subst (λ u. same_elem s u ≡ true) (h (eqb-true a b e)) (same_itself s)
       | false ↦ λ e. refl
     ] refl
+
+apart : (b c : ℕ) → (b ≡ c → ⊥) → nat_eq b c ≡ false
+apart b c h = elim (nat_eq b c) as (λ t. nat_eq b c ≡ t → t ≡ false) [ true ↦ λ e. absurd (h (eqb-true b c e)) | false ↦ λ e. refl ] refl
 
 whole_again : (out : Option Strided) (makes : Bool) (ins new : List Strided)
     → (not makes || (is_some out && list_all (λ (o : Strided). is_whole o && list_all (λ (w : Strided). not (w.base == o.base)) ins) (option_to_list out))) ≡ true
@@ -177,9 +180,6 @@ module _ (front back : List Op) (op : Op) (code : Code) (from : Elem) (first sec
       (unfreed_again f.frees (named op) (named next) (both_right (not op.makes || list_all (λ (o : Strided). not (has (named f) o.base)) (outputs op)) _ h)
         (λ b k n. renamed b n (All_weaker (λ (v : Strided). has (freed f) v.base ≡ false) (λ (v : Strided). nat_eq b v.base ≡ false)
           (λ v u. apart b v.base (λ e. false≢true (sym u ∙ ap (has (freed f)) (sym e) ∙ k))) (inputs next) a)))
-    where
-      apart : (b c : ℕ) → (b ≡ c → ⊥) → nat_eq b c ≡ false
-      apart b c h = elim (nat_eq b c) as (λ t. nat_eq b c ≡ t → t ≡ false) [ true ↦ λ e. absurd (h (eqb-true b c e)) | false ↦ λ e. refl ] refl
 
   order_row : (g : Op) → AllByRecursion (λ (v : Strided). makes_base g v.base ≡ false) (inputs next) → may_precede op g ≡ true → may_precede next g ≡ true
   order_row g a h =
@@ -188,9 +188,6 @@ module _ (front back : List Op) (op : Op) (code : Code) (from : Elem) (first sec
         (λ b k n. renamed b n (All_weaker (λ (v : Strided). makes_base g v.base ≡ false) (λ (v : Strided). nat_eq b v.base ≡ false)
           (λ v u. apart b v.base (λ e. false≢true (sym u ∙ ap (makes_base g) (sym e) ∙ k))) (inputs next) a)))
       (both_right (not g.makes || list_all (λ (o : Strided). not (has (named op) o.base)) (outputs g)) _ h)
-    where
-      apart : (b c : ℕ) → (b ≡ c → ⊥) → nat_eq b c ≡ false
-      apart b c h = elim (nat_eq b c) as (λ t. nat_eq b c ≡ t → t ≡ false) [ true ↦ λ e. absurd (h (eqb-true b c e)) | false ↦ λ e. refl ] refl
 
   pub formed_next : Formed (front ++ next ∷ back)
   formed_next = record {
@@ -227,6 +224,6 @@ module _ (front back : List Op) (op : Op) (code : Code) (from : Elem) (first sec
       (test_all (fits_with m (creates (front ++ op ∷ back))) (front ++ next ∷ back)
         (all_replaced (λ g. fits_with m (creates (front ++ op ∷ back)) g ≡ true) front back op next own (all_of (fits_with m (creates (front ++ op ∷ back))) (front ++ op ∷ back) f)))
 
-pub slots_same : (front back : List Op) (op next : Op) → op.slot ≡ next.slot → slot_numbers (front ++ op ∷ back) ≡ slot_numbers (front ++ next ∷ back)
-slots_same [] back op next e = ap (λ s. option_to_list s ++ slot_numbers back) e
-slots_same (f ∷ front) back op next e = ap (λ k. option_to_list f.slot ++ k) (slots_same front back op next e)
+pub slots_same : (front back : List Op) (x y : Op) → x.slot ≡ y.slot → slot_numbers (front ++ x ∷ back) ≡ slot_numbers (front ++ y ∷ back)
+slots_same [] back x y e = ap (λ s. option_to_list s ++ slot_numbers back) e
+slots_same (f ∷ front) back x y e = ap (λ k. option_to_list f.slot ++ k) (slots_same front back x y e)

@@ -42,7 +42,7 @@ source_is (Some (Number y)) z e = let same : y ≡ z = cc in ap (λ k. Some (Num
 source_is (Some (Array x)) z e = absurd (cc)
 source_is None z e = absurd (cc)
 
-known : (front back : List Op) (o : Option Operand) (z : ℤ) → known_operand front back o ≡ Some z → Known front o z
+pub known : (front back : List Op) (o : Option Operand) (z : ℤ) → known_operand front back o ≡ Some z → Known front o z
 known front back None z e = absurd (cc)
 known front back (Some (Number y)) z e = absurd (cc)
 known front back (Some (Array x)) z e =

@@ -38,7 +38,7 @@ pub record Regroups (code : Code) (t : Elem) : Type 0 where
   pub scalar : is_scalar (kind code) ≡ true
   pub types : (op : Op) → types_kept code op ≡ true → op.to ≡ op.from
 
-regroups_of : (code : Code) (t : Elem) → regroups code ≡ true → Regroups code t
+pub regroups_of : (code : Code) (t : Elem) → regroups code ≡ true → Regroups code t
 regroups_of Add t h = record { joins = joins_add t; scalar = refl; types = λ op e. same_elem_is op.to op.from e }
 regroups_of Multiply t h = record { joins = joins_multiply t; scalar = refl; types = λ op e. same_elem_is op.to op.from e }
 regroups_of BitwiseAnd t h = record { joins = joins_and t; scalar = refl; types = λ op e. same_elem_is op.to op.from e }
@@ -55,7 +55,7 @@ same_code_is BitwiseXor BitwiseXor h = refl
 same_code_is _ _ h = absurd (false≢true h)
 
 -- the view beside the constant is an input
-beside_input : (P : Strided → Type 0) (first second : Option Operand) (y : Beside) → beside first second ≡ Some y → AllByRecursion P (view_of first ++ view_of second) → P y.view
+pub beside_input : (P : Strided → Type 0) (first second : Option Operand) (y : Beside) → beside first second ≡ Some y → AllByRecursion P (view_of first ++ view_of second) → P y.view
 beside_input P (Some (Array x)) (Some (Number c)) y e h = let same : x ≡ y.view = ap view_in e in subst P same h.0
   where
     view_in : Option Beside → Strided
@@ -82,7 +82,7 @@ pub record Joined (front : List Op) (op next : Op) (x : Beside) : Type 0 where
   pub clean : unspoiled writer.between source.view ≡ true
   pub becomes : code_op op op.code source.view (Number (value op.code op.to source.number x.number)) ≡ next
 
-joined_found : (front back : List Op) (op next : Op) (x : Beside) → joined_to op x (only_writer front back x.view.base) ≡ Some next → Joined front op next x
+pub joined_found : (front back : List Op) (op next : Op) (x : Beside) → joined_to op x (only_writer front back x.view.base) ≡ Some next → Joined front op next x
 joined_found front back op next x e =
     elim (only_writer front back x.view.base) as (λ k. only_writer front back x.view.base ≡ k → joined_to op x k ≡ Some next → Joined front op next x) [
       | None ↦ λ d g. absurd (cc)

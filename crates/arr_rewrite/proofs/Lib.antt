@@ -22,3 +22,4 @@ pub mod NextKeeps
 pub mod Parts
 pub mod Sources
 pub mod Changed
+pub mod Turns

@@ -64,7 +64,7 @@ maker_removed b op e (f ∷ front) back =
 
 -- ---- sums
 
-total-append : {X : Type 0} (w : X → ℕ) (xs ys : List X) → total w (xs ++ ys) ≡ total w xs + total w ys
+pub total-append : {X : Type 0} (w : X → ℕ) (xs ys : List X) → total w (xs ++ ys) ≡ total w xs + total w ys
 total-append w [] ys = omega arith
 total-append w (x ∷ xs) ys = ap (λ k. w x + k) (total-append w xs ys) ∙ (let e : w x + (total w xs + total w ys) ≡ w x + total w xs + total w ys = omega arith in e)
 
