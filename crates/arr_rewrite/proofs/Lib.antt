@@ -23,3 +23,4 @@ pub mod Parts
 pub mod Sources
 pub mod Changed
 pub mod Turns
+pub mod TurnsOne
