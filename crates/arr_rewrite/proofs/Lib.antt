@@ -24,3 +24,4 @@ pub mod Sources
 pub mod Changed
 pub mod Turns
 pub mod TurnsOne
+pub mod TurnsTwo

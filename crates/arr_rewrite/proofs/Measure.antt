@@ -98,7 +98,7 @@ worth_two Power e = omega arith
 worth_two Subtract e = omega arith
 worth_two _ e = omega arith
 
-worth_of : (code : Code) (k : ℕ) → k ≤ operand_worth code * k
+pub worth_of : (code : Code) (k : ℕ) → k ≤ operand_worth code * k
 worth_of code k =
     let a : 1 ≤ operand_worth code = worth_one code in
     let b : k * 1 ≤ k * operand_worth code = mul-le-mul_left k a in
@@ -141,7 +141,7 @@ op_worth_less p q f h =
     more [] h = tt
     more (v ∷ vs) h = (let a : p v.base ≤ q v.base = h.0 in omega arith, more vs h.1)
 
-some_worth : (code : Code) → 1 ≤ code_worth code
+pub some_worth : (code : Code) → 1 ≤ code_worth code
 some_worth Identity = omega arith
 some_worth Power = omega arith
 some_worth Subtract = omega arith
