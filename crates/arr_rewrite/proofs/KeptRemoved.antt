@@ -45,7 +45,7 @@ pub record ToItself (op : Op) : Type 0 where
   pub second : op.second ≡ None
   pub same : identical o v ≡ true
 
-find_itself : (op : Op) (out : Option Strided) (first second : Option Operand) → op.out ≡ out → op.first ≡ first → op.second ≡ second → is_none second ≡ true
+pub find_itself : (op : Op) (out : Option Strided) (first second : Option Operand) → op.out ≡ out → op.first ≡ first → op.second ≡ second → is_none second ≡ true
     → some_pair identical (option_to_list out) (view_of first ++ view_of second) ≡ true → ToItself op
 find_itself op None first second p q r n h = absurd (false≢true h)
 find_itself op (Some o) None None p q r n h = absurd (or_cases false false h false≢true false≢true)
@@ -55,7 +55,7 @@ find_itself op (Some o) (Some (Array v)) None p q r n h =
       same = or_cases (identical o v || false) false h (λ t. or_cases (identical o v) false t (λ s. s) (λ s. absurd (false≢true s))) (λ t. absurd (false≢true t)) }
 find_itself op out first (Some x) p q r n h = absurd (false≢true n)
 
-input_apart : (op : Op) (out : Option Strided) (o v : Strided) (makes : Bool) → out ≡ Some o → op.first ≡ Some (Array v)
+pub input_apart : (op : Op) (out : Option Strided) (o v : Strided) (makes : Bool) → out ≡ Some o → op.first ≡ Some (Array v)
     → (not makes || (is_some out && list_all (λ (u : Strided). is_whole u && list_all (λ (w : Strided). not (w.base == u.base)) (inputs op)) (option_to_list out))) ≡ true
     → (o.base == v.base) ≡ true → makes ≡ false
 input_apart op out o v false p q h e = refl
@@ -108,7 +108,7 @@ axis_bare op after h =
     let a = both_right (is_none op.second) _ (both_right (is_array op.first) _ (both_right (is_some op.out) _ h)) in
     record { no_slot = none_from op.slot (both_left (is_none op.slot) _ a); no_free = none_from op.frees (both_left (is_none op.frees) _ (both_right (is_none op.slot) _ a)) }
 
-elementwise_bare : (op : Op) → elementwise op ≡ true → Bare op
+pub elementwise_bare : (op : Op) → elementwise op ≡ true → Bare op
 elementwise_bare op h =
     let a = both_right (is_none op.axis) _ (both_left (plain op) _ h) in
     record { no_slot = none_from op.slot (both_left (is_none op.slot) _ a); no_free = none_from op.frees (both_right (is_none op.slot) _ a) }

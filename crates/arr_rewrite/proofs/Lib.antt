@@ -25,3 +25,4 @@ pub mod Changed
 pub mod Turns
 pub mod TurnsOne
 pub mod TurnsTwo
+pub mod Removals

@@ -44,7 +44,7 @@ one : (b : Bool) → (b || false) ≡ true → b ≡ true
 one true h = refl
 one false h = h
 
-makes_not : (out : Option Strided) (makes : Bool) (b : ℕ) → AllByRecursion (λ (v : Strided). (v.base == b) ≡ false) (option_to_list out) → (makes && list_any (λ (o : Strided). o.base == b) (option_to_list out)) ≡ false
+pub makes_not : (out : Option Strided) (makes : Bool) (b : ℕ) → AllByRecursion (λ (v : Strided). (v.base == b) ≡ false) (option_to_list out) → (makes && list_any (λ (o : Strided). o.base == b) (option_to_list out)) ≡ false
 makes_not out false b h = refl
 makes_not None true b h = refl
 makes_not (Some o) true b h = ap (λ k. k || false) h.0
