@@ -26,3 +26,5 @@ pub mod Turns
 pub mod TurnsOne
 pub mod TurnsTwo
 pub mod Removals
+pub mod NextFollows
+pub mod Laws
