@@ -1,19 +1,18 @@
 -- Constants that alone decide a value.
-use Rattle.std.proofs.Common.{◌≡◌, ℕ, ◌+◌, ◌-◌, ◌*◌, ◌^◌, ◌%◌, ◌/◌, ◌≤◌, ◌<◌, suc, zero, ℤ, pos, negsuc, List, [], ◌∷◌, Bool, true, false, cond, ◌||◌, refl, ap, ap₂, sym, ◌∙◌, arith, Option, Some, None, inl, inr}
-use Rattle.std.proofs.lemmas.Bool.{false≢true, cases_lt, ltb-true}
-use Rattle.std.proofs.lemmas.Int.{ints, clamps}
+use Rattle.std.proofs.Common.{◌≡◌, ℕ, ◌-◌, ◌^◌, ◌%◌, ◌/◌, ◌<◌, suc, ℤ, pos, negsuc, Bool, true, false, cond, ◌||◌, refl, ap, sym, ◌∙◌, arith, Some, inl, inr}
+use Rattle.std.proofs.lemmas.Bool.{cases_lt}
+use Rattle.std.proofs.lemmas.Int.{ints}
 use Rattle.std.proofs.lemmas.Nat.Bits.{same_from_bits, bit_at_or, bit_at_ones, bit_at_ones_above, bit_at_above}
 use Rattle.std.specs.Int.Bits.{and_zero_r, and_comm, or_comm}
-use Rattle.std.specs.Prelude.{◌≤ℤ◌, ◌*ℤ◌, bit_and, bit_or, min, max}
-use Rattle.std.specs.Int.{int_max, int_min, int_shr, bit_at}
+use Rattle.std.specs.Prelude.{◌*ℤ◌, bit_and, bit_or}
+use Rattle.std.specs.Int.{int_shr, bit_at}
 use Rattle.std.specs.Int.RustNames.{int_div, int_rem}
-use Rattle.std.specs.List.{AllByRecursion}
-use Rattle.arr_num.specs.Numbers.{bits, size, in_type, digits, wrap, same, ones, least, greatest, shift, quotient, remainder, value}
+use Rattle.arr_num.specs.Numbers.{bits, in_type, digits, wrap, same, ones, least, greatest, shift, quotient, remainder, value}
 use Rattle.arr_num.specs.declared.elem.Elem.{Elem}
 use Rattle.arr_num.specs.declared.elem.Elem.TheVariants.{U8, I32, I64, U64}
 use Rattle.arr_num.specs.declared.code.Code.{Code}
 use Rattle.arr_num.specs.declared.code.Code.TheVariants.{Multiply, Divide, Mod, Maximum, Minimum, BitwiseAnd, BitwiseOr, LeftShift, RightShift}
-use Rattle.arr_num.proofs.Wrapping.{digits_below, wrap_same, same_is}
+use Rattle.arr_num.proofs.Wrapping.{digits_below, same_is}
 use Rattle.arr_ops.proofs.Tests.{or_cases}
 use Rattle.arr_ops.proofs.Typed.{zero_in}
 use Rattle.arr_rewrite.specs.Rules.{fixed_right, fixed_left}
@@ -101,23 +100,26 @@ fixed_right_law Divide t x c z h e =
     at_value (Gives t (value Divide t x c)) _ _ z e (λ k. (ap (λ y. wrap t (quotient x y)) (same_is c _ k) ∙ kept t (pos 0) _ (zero_in t) refl, zero_in t))
 fixed_right_law Mod t x c z h e =
     at_value (Gives t (value Mod t x c)) _ _ z e
-    (λ k. (or_cases (same c (pos 0)) (same c (pos 1) || same c (negsuc 0)) k
-        (λ a. ap (λ y. wrap t (remainder x y)) (same_is c _ a) ∙ kept t (pos 0) _ (zero_in t) refl)
-        (λ b. or_cases (same c (pos 1)) (same c (negsuc 0)) b
+    (λ k. (
+      or_cases (same c (pos 0)) (same c (pos 1) || same c (negsuc 0)) k
+          (λ a. ap (λ y. wrap t (remainder x y)) (same_is c _ a) ∙ kept t (pos 0) _ (zero_in t) refl)
+          (λ b. or_cases (same c (pos 1)) (same c (negsuc 0)) b
           (λ a. ap (λ y. wrap t (remainder x y)) (same_is c _ a) ∙ kept t (pos 0) _ (zero_in t) (mod_one x))
-          (λ a. ap (λ y. wrap t (remainder x y)) (same_is c _ a) ∙ kept t (pos 0) _ (zero_in t) (mod_less_one x))), zero_in t))
+          (λ a. ap (λ y. wrap t (remainder x y)) (same_is c _ a) ∙ kept t (pos 0) _ (zero_in t) (mod_less_one x))),
+      zero_in t,
+    ))
 fixed_right_law BitwiseOr t x c z h e =
     at_value (Gives t (value BitwiseOr t x c)) _ _ z e
     (λ k. let o : c ≡ ones t = same_is c _ k in
-      (ap (value BitwiseOr t x) o ∙ digits_kept t (ones t) _ (ones_in t) (or_all t x) ∙ sym o, ap (in_type t) o ∙ ones_in t))
+    (ap (value BitwiseOr t x) o ∙ digits_kept t (ones t) _ (ones_in t) (or_all t x) ∙ sym o, ap (in_type t) o ∙ ones_in t))
 fixed_right_law Maximum t x c z h e =
     at_value (Gives t (value Maximum t x c)) _ _ z e
     (λ k. let o : c ≡ greatest t = same_is c _ k in
-      (ap (value Maximum t x) o ∙ kept t (greatest t) _ (greatest_in t) (max_right (greatest t) x (greatest_greatest t x h)) ∙ sym o, ap (in_type t) o ∙ greatest_in t))
+    (ap (value Maximum t x) o ∙ kept t (greatest t) _ (greatest_in t) (max_right (greatest t) x (greatest_greatest t x h)) ∙ sym o, ap (in_type t) o ∙ greatest_in t))
 fixed_right_law Minimum t x c z h e =
     at_value (Gives t (value Minimum t x c)) _ _ z e
     (λ k. let o : c ≡ least t = same_is c _ k in
-      (ap (value Minimum t x) o ∙ kept t (least t) _ (least_in t) (min_right (least t) x (least_least t x h)) ∙ sym o, ap (in_type t) o ∙ least_in t))
+    (ap (value Minimum t x) o ∙ kept t (least t) _ (least_in t) (min_right (least t) x (least_least t x h)) ∙ sym o, ap (in_type t) o ∙ least_in t))
 fixed_right_law _ t x c z h e = absurd (cc)
 
 pub fixed_left_law : (code : Code) (t : Elem) (x c z : ℤ) → in_type t x ≡ true → fixed_left code t c ≡ Some z → Gives t (value code t c x) z
@@ -126,8 +128,11 @@ fixed_left_law Multiply t x c z h e =
     at_value (Gives t (value Multiply t c x)) _ _ z e (λ k. (ap (λ y. wrap t (y *ℤ x)) (same_is c _ k) ∙ kept t (pos 0) _ (zero_in t) (zero_mul x), zero_in t))
 fixed_left_law BitwiseAnd t x c z h e =
     at_value (Gives t (value BitwiseAnd t c x)) _ _ z e
-    (λ k. (digits_kept t (pos 0) _ (zero_in t)
-      (and_comm (digits t c) (digits t x) ∙ ap (λ y. bit_and (digits t x) (digits t y)) (same_is c _ k) ∙ ap (bit_and (digits t x)) (digits_zero t) ∙ and_zero_r (digits t x) ∙ sym (digits_zero t)), zero_in t))
+    (λ k. (
+      digits_kept t (pos 0) _ (zero_in t)
+          (and_comm (digits t c) (digits t x) ∙ ap (λ y. bit_and (digits t x) (digits t y)) (same_is c _ k) ∙ ap (bit_and (digits t x)) (digits_zero t) ∙ and_zero_r (digits t x) ∙ sym (digits_zero t)),
+      zero_in t,
+    ))
 fixed_left_law Divide t x c z h e =
     at_value (Gives t (value Divide t c x)) _ _ z e (λ k. (ap (λ y. wrap t (quotient y x)) (same_is c _ k) ∙ kept t (pos 0) _ (zero_in t) (zero_divided x), zero_in t))
 fixed_left_law Mod t x c z h e =
@@ -140,13 +145,13 @@ fixed_left_law RightShift t x c z h e =
 fixed_left_law BitwiseOr t x c z h e =
     at_value (Gives t (value BitwiseOr t c x)) _ _ z e
     (λ k. let o : c ≡ ones t = same_is c _ k in
-      (ap (λ y. value BitwiseOr t y x) o ∙ digits_kept t (ones t) _ (ones_in t) (or_comm (digits t (ones t)) (digits t x) ∙ or_all t x) ∙ sym o, ap (in_type t) o ∙ ones_in t))
+    (ap (λ y. value BitwiseOr t y x) o ∙ digits_kept t (ones t) _ (ones_in t) (or_comm (digits t (ones t)) (digits t x) ∙ or_all t x) ∙ sym o, ap (in_type t) o ∙ ones_in t))
 fixed_left_law Maximum t x c z h e =
     at_value (Gives t (value Maximum t c x)) _ _ z e
     (λ k. let o : c ≡ greatest t = same_is c _ k in
-      (ap (λ y. value Maximum t y x) o ∙ kept t (greatest t) _ (greatest_in t) (max_left (greatest t) x (greatest_greatest t x h)) ∙ sym o, ap (in_type t) o ∙ greatest_in t))
+    (ap (λ y. value Maximum t y x) o ∙ kept t (greatest t) _ (greatest_in t) (max_left (greatest t) x (greatest_greatest t x h)) ∙ sym o, ap (in_type t) o ∙ greatest_in t))
 fixed_left_law Minimum t x c z h e =
     at_value (Gives t (value Minimum t c x)) _ _ z e
     (λ k. let o : c ≡ least t = same_is c _ k in
-      (ap (λ y. value Minimum t y x) o ∙ kept t (least t) _ (least_in t) (min_left (least t) x (least_least t x h)) ∙ sym o, ap (in_type t) o ∙ least_in t))
+    (ap (λ y. value Minimum t y x) o ∙ kept t (least t) _ (least_in t) (min_left (least t) x (least_least t x h)) ∙ sym o, ap (in_type t) o ∙ least_in t))
 fixed_left_law _ t x c z h e = absurd (cc)

@@ -1,8 +1,7 @@
 -- What the only writer of a base left there is still there: rules 5, 6 and 7.
-use Rattle.std.proofs.Common.{◌≡◌, ◌≢◌, ℕ, ◌+◌, ◌<◌, suc, zero, ℤ, pos, List, [], ◌∷◌, ◌++◌, true, cond, ◌||◌, ◌&&◌, refl, ap, ap₂, sym, ◌∙◌, arith, Option, Some, None, map, length, get_or, replicate, append_assoc}
+use Rattle.std.proofs.Common.{◌≡◌, ℕ, ◌+◌, ◌<◌, suc, zero, ℤ, pos, List, [], ◌∷◌, ◌++◌, true, cond, refl, ap, ap₂, sym, ◌∙◌, arith, Option, Some, None, map, length, get_or, replicate, append_assoc}
 use Rattle.std.proofs.lemmas.Bool.{eq-eqb}
 use Rattle.std.proofs.lemmas.List.{length_push, get_or-replicate, length-map}
-use Rattle.std.specs.Prelude.{◌==◌}
 use Rattle.std.specs.List.{AllByRecursion, range_with_len}
 use Rattle.std.specs.Option.{option_to_list}
 use Rattle.arr_view.specs.Strided.{Strided}
@@ -265,6 +264,7 @@ constants_shown k w op o x v between h code to scalar joins none first source b 
     length_read : (c : Option Cell) (es : List ℕ) → length (read c es) ≡ length es
     length_read None es = length-map es (λ p. pos 0)
     length_read (Some c) es = length-map es (λ p. get_or c.numbers p (pos 0))
+
     length_zip : (f : ℤ → ℤ → ℤ) (xs : List ℤ) (n : ℕ) (d : ℤ) → length xs ≡ n → length (zip_with f xs (replicate n d)) ≡ n
     length_zip f [] zero d e = refl
     length_zip f [] (suc n) d e = absurd (omega arith)

@@ -1,5 +1,5 @@
 -- A constant carried into an operand keeps the memory that a formed list leaves.
-use Rattle.std.proofs.Common.{◌≡◌, ◌≢◌, ℕ, ◌+◌, ◌<◌, ℤ, List, [], ◌∷◌, ◌++◌, Bool, true, false, cond, not, ◌||◌, ◌&&◌, refl, ap, ap₂, sym, subst, ◌∙◌, Option, Some, None, length, replicate}
+use Rattle.std.proofs.Common.{◌≡◌, ℕ, ℤ, List, [], ◌∷◌, ◌++◌, Bool, true, false, cond, not, ◌||◌, refl, ap, ap₂, sym, subst, ◌∙◌, Option, Some, None, length, replicate}
 use Rattle.std.proofs.lemmas.Bool.{false≢true, eqb-true}
 use Rattle.std.specs.Prelude.{◌==◌, is_some, nat_lt}
 use Rattle.std.specs.List.{AllByRecursion, list_all, list_any}
@@ -85,39 +85,45 @@ reads m front back op formed o z k at size =
     let out = written_out w k.view.base w.out refl k.found.writes in
     let insides : AllByRecursion (λ g. inside_made w g ≡ true) ((pre ++ w ∷ between) ++ op ∷ back) =
     (all_right (λ f. AllByRecursion (λ g. inside_made f g ≡ true) ((pre ++ w ∷ between) ++ op ∷ back)) pre (w ∷ between)
-      (all_left (λ f. AllByRecursion (λ g. inside_made f g ≡ true) ((pre ++ w ∷ between) ++ op ∷ back)) (pre ++ w ∷ between) (op ∷ back) moved.inside)).0 in
+    (all_left (λ f. AllByRecursion (λ g. inside_made f g ≡ true) ((pre ++ w ∷ between) ++ op ∷ back)) (pre ++ w ∷ between) (op ∷ back) moved.inside)).0 in
     let inside : inside_made w op ≡ true = (all_right (λ g. inside_made w g ≡ true) (pre ++ w ∷ between) (op ∷ back) insides).0 in
     ap (λ fs. read ((eager m fs).bases k.view.base) (elements k.view)) k.found.split
     ∙ filled_reads m pre between back w op out.0 k.view z moved k.found.makes out.1 k.code k.source
-      (ap (λ b. unwritten_base between b) out.2 ∙ k.found.alone)
-      (sym out.2) (at (λ (v : Strided). has (named op) v.base ≡ true) (inputs_named op)) size
-      (at (λ (v : Strided). (not (out.0.base == v.base) || list_all (λ e. nat_lt e (positions out.0.lengths)) (elements v)) ≡ true) (inside_of w op out.0 k.found.makes out.1 inside), tt)
+    (ap (λ b. unwritten_base between b) out.2 ∙ k.found.alone)
+    (sym out.2) (at (λ (v : Strided). has (named op) v.base ≡ true) (inputs_named op)) size
+    (at (λ (v : Strided). (not (out.0.base == v.base) || list_all (λ e. nat_lt e (positions out.0.lengths)) (elements v)) ≡ true) (inside_of w op out.0 k.found.makes out.1 inside), tt)
 
 pub constant_carried_keeps : (m : Memory) (front back : List Op) (op next : Op) → Formed (front ++ op ∷ back)
     → constant_carried front op back ≡ Some next → eager m (front ++ op ∷ back) ≡ eager m (front ++ next ∷ back)
 constant_carried_keeps m front back op next formed e =
     elim (scalar_code op.code) as (λ t. scalar_code op.code ≡ t
-      → cond t (option_or (first_number op (known_operand front (op ∷ back) op.first)) (second_number op (known_operand front (op ∷ back) op.second))) None ≡ Some next
-      → eager m (front ++ op ∷ back) ≡ eager m (front ++ next ∷ back)) [
+    → cond t (option_or (first_number op (known_operand front (op ∷ back) op.first)) (second_number op (known_operand front (op ∷ back) op.second))) None ≡ Some next
+    → eager m (front ++ op ∷ back) ≡ eager m (front ++ next ∷ back)) [
       | false ↦ λ t g. absurd (cc)
       | true ↦ λ t g. same_step m front back op next (by_first (scalar_kind op.code t) (known_operand front (op ∷ back) op.first) (known_operand front (op ∷ back) op.second) refl refl g)
     ] refl e
   where
     n : Memory
     n = eager m front
+
     well : well_formed op ≡ true
     well = well_at front back op formed
+
     sized : is_scalar (kind op.code) ≡ true → (op.slot ≡ None) × AllByRecursion (λ (v : Strided). length (elements v) ≡ walk_length op) (inputs op)
     sized s =
         let el : elementwise op ≡ true = scalar_elementwise (kind op.code) op s (operands_of op well) in
         by_output (λ f. (op.slot ≡ None) × AllByRecursion (λ (v : Strided). length (elements v) ≡ walk_length op) (inputs op)) op
-        (λ o out. let p : Plain op o = plain_at op o out well el in
-          (p.no_slot, All_weaker (λ (v : Strided). length (elements v) ≡ positions o.lengths) (λ (v : Strided). length (elements v) ≡ walk_length op)
-            (λ v k. k ∙ sym (ap (λ u. positions (out_lengths u)) out)) (inputs op) p.sizes)) (both_left (is_some op.out) _ (both_right (plain op) _ el))
+        (λ o out. let p : Plain op o = plain_at op o out well el in (
+          p.no_slot,
+          All_weaker (λ (v : Strided). length (elements v) ≡ positions o.lengths) (λ (v : Strided). length (elements v) ≡ walk_length op)
+              (λ v k. k ∙ sym (ap (λ u. positions (out_lengths u)) out)) (inputs op) p.sizes,
+        )) (both_left (is_some op.out) _ (both_right (plain op) _ el))
+
     second_none : is_identity op.code ≡ true → op.second ≡ None
     second_none t =
         let kept : operands_kept Unary op ≡ true = ap (λ c. operands_kept (kind c) op) (sym (identity_is op.code t)) ∙ operands_of op well in
         none_from op.second (both_right (is_some op.first) _ (both_right (elementwise op) _ kept))
+
     by_second : is_scalar (kind op.code) ≡ true → (b : Option ℤ) → known_operand front (op ∷ back) op.second ≡ b → second_number op b ≡ Some next → step n op ≡ step n next
     by_second s None q g = absurd (cc)
     by_second s (Some z) q g =
@@ -125,8 +131,9 @@ constant_carried_keeps m front back op next formed e =
         let got = reads m front back op formed op.second z k (λ P h. at_second P op k.view k.is h) (at_second (λ (v : Strided). length (elements v) ≡ walk_length op) op k.view k.is (sized s).1) in
         let same : with_second op (Number z) ≡ next = cc in
         second_constant n op k.view z s (sized s).0 k.is got ∙ ap (step n) same
+
     by_first : is_scalar (kind op.code) ≡ true → (a b : Option ℤ) → known_operand front (op ∷ back) op.first ≡ a → known_operand front (op ∷ back) op.second ≡ b
-      → option_or (first_number op a) (second_number op b) ≡ Some next → step n op ≡ step n next
+        → option_or (first_number op a) (second_number op b) ≡ Some next → step n op ≡ step n next
     by_first s None b p q g = by_second s b q g
     by_first s (Some z) b p q g =
         let k : Known front op.first z = known front (op ∷ back) op.first z p in

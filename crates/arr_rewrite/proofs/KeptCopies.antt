@@ -1,5 +1,5 @@
 -- A copied view carried into an operand, and constants joined, keep the memory that a formed list leaves.
-use Rattle.std.proofs.Common.{◌≡◌, ◌≢◌, ℕ, ◌+◌, ◌<◌, List, ◌∷◌, ◌++◌, Bool, true, false, cond, not, ◌||◌, ◌&&◌, refl, ap, sym, subst, ◌∙◌, Option, Some, None, length, append_assoc}
+use Rattle.std.proofs.Common.{◌≡◌, ℕ, List, ◌∷◌, ◌++◌, Bool, true, false, cond, not, ◌||◌, ◌&&◌, refl, ap, sym, subst, ◌∙◌, Option, Some, None, length, append_assoc}
 use Rattle.std.proofs.lemmas.Bool.{false≢true, eqb-true, eq-eqb}
 use Rattle.std.specs.Prelude.{◌==◌, is_some}
 use Rattle.std.specs.List.{AllByRecursion, list_all, list_any, range_with_len}
@@ -52,7 +52,8 @@ creator_test w (Some u) o true e m h =
     subst (Creator w) same (record {
       whole = same_from_test (elements u) (range_with_len 0 (positions u.lengths)) (both_left (is_whole u) _ a);
       apart = All_weaker (λ (v : Strided). not (v.base == u.base) ≡ true) (λ (v : Strided). (v.base == u.base) ≡ false) (λ v t. turned_not (v.base == u.base) t) (inputs w)
-        (all_of (λ (v : Strided). not (v.base == u.base)) (inputs w) (both_right (is_whole u) _ a)); })
+          (all_of (λ (v : Strided). not (v.base == u.base)) (inputs w) (both_right (is_whole u) _ a));
+    })
 
 pub creator_of : (w : Op) (o : Strided) → w.out ≡ Some o → w.makes ≡ true → well_formed w ≡ true → Creator w o
 creator_of w o e m well =
@@ -66,12 +67,13 @@ spared_by : (f : Op) (v : Strided) (names : List ℕ) (out : Option Strided) (ma
     → (not makes || list_all (λ (o : Strided). not (has names o.base)) (option_to_list out)) ≡ true → Misses out makes v
 spared_by f v names None makes n s h = tt
 spared_by f v names (Some u) false n s h = (or_left (overlap u v) false s, λ e. absurd (false≢true e))
-spared_by f v names (Some u) true n s h =
-    (or_left (overlap u v) false s,
-    λ e. elim (u.base == v.base) as (λ t. (u.base == v.base) ≡ t → t ≡ false) [
-      | true ↦ λ d. absurd (false≢true (sym (turned_not (has names u.base) (both_left (not (has names u.base)) true h)) ∙ ap (has names) (eqb-true u.base v.base d) ∙ n))
-      | false ↦ λ d. refl
-    ] refl)
+spared_by f v names (Some u) true n s h = (
+  or_left (overlap u v) false s,
+  λ e. elim (u.base == v.base) as (λ t. (u.base == v.base) ≡ t → t ≡ false) [
+    | true ↦ λ d. absurd (false≢true (sym (turned_not (has names u.base) (both_left (not (has names u.base)) true h)) ∙ ap (has names) (eqb-true u.base v.base d) ∙ n))
+    | false ↦ λ d. refl
+  ] refl,
+)
 
 -- where what a view shows came from
 pub record Traced (w : Op) (o x v : Strided) (between : List Op) : Type 0 where
@@ -101,20 +103,24 @@ traced pre between back w op o x v formed makes out scalar same alone names clea
     let order : AllByRecursion (λ f. may_precede w f ≡ true) between =
     after_in pre between back w op formed in
     record {
-      wrote = wr; whole = places ∙ made.whole;
+      wrote = wr;
+      whole = places ∙ made.whole;
       shape_x = same_from_test x.lengths o.lengths (both_left (same_lists x.lengths o.lengths) _ lists);
       shape_v = at (λ (v : Strided). v.lengths ≡ o.lengths) p.shapes;
       size = at (λ (v : Strided). length (elements v) ≡ positions o.lengths) p.sizes;
       base = base;
       spared_w = record {
         kept = ap (λ f. has (option_to_list f) v.base) wr.frees;
-        missed = subst (λ (u : Option Strided). Misses u w.makes v) (sym out) (ap (λ t. t && share (elements o) (elements v)) away, λ _. away); };
+        missed = subst (λ (u : Option Strided). Misses u w.makes v) (sym out) (ap (λ t. t && share (elements o) (elements v)) away, λ _. away);
+      };
       spared = all_two (λ f. not (spoils v f) ≡ true) (λ f. may_precede w f ≡ true) (λ f. Spared f v)
-        (λ f a b. let s : spoils v f ≡ false = turned_not (spoils v f) a in
-          record { kept = or_right (list_any (λ u. overlap u v) (outputs f)) (has (freed f) v.base) s;
+          (λ f a b. let s : spoils v f ≡ false = turned_not (spoils v f) a in
+          record {
+            kept = or_right (list_any (λ u. overlap u v) (outputs f)) (has (freed f) v.base) s;
             missed = spared_by f v (named w) f.out f.makes named_v (or_left (list_any (λ u. overlap u v) (outputs f)) (has (freed f) v.base) s)
-              (both_left (not f.makes || list_all (λ (u : Strided). not (has (named w) u.base)) (outputs f)) _ b); })
-        between (all_of (λ f. not (spoils v f)) between clean) order;
+                (both_left (not f.makes || list_all (λ (u : Strided). not (has (named w) u.base)) (outputs f)) _ b);
+          })
+          between (all_of (λ f. not (spoils v f)) between clean) order;
     }
   where
     after_in : (pre between back : List Op) (w op : Op) → Formed ((pre ++ w ∷ between) ++ op ∷ back) → AllByRecursion (λ f. may_precede w f ≡ true) between
@@ -154,11 +160,17 @@ copied front back (Some (Array x)) v e =
             | true ↦ λ t f.
                 let r = both_right (is_identity w.op.code) (same_elem w.op.from w.op.to && list_any (identical x) (outputs w.op)) t in
                 let s = source_at w.between w.op.first v f in
-                record { view = x; is = refl; writer = w; found = found_before front back x.base w d;
+                record {
+                  view = x;
+                  is = refl;
+                  writer = w;
+                  found = found_before front back x.base w d;
                   code = identity_is w.op.code (both_left (is_identity w.op.code) (same_elem w.op.from w.op.to && list_any (identical x) (outputs w.op)) t);
                   types = same_elem_is w.op.from w.op.to (both_left (same_elem w.op.from w.op.to) (list_any (identical x) (outputs w.op)) r);
                   same = both_right (same_elem w.op.from w.op.to) (list_any (identical x) (outputs w.op)) r;
-                  source = s.0; clean = s.1 }
+                  source = s.0;
+                  clean = s.1;
+                }
             | false ↦ λ t f. absurd (cc)
           ] refl g
     ] refl e
@@ -184,10 +196,11 @@ copy_reads m front back op formed fit o v k names =
     traced pre between back w op out.0 k.view v moved k.found.makes out.1 (ap (λ c. is_scalar (kind c)) k.code) same (ap (unwritten_base between) out.2 ∙ k.found.alone) names k.clean (λ P h. at_first P w v k.source h) in
     let holds : CellFits w.from ((eager m pre).bases v.base) = at_first (λ (u : Strided). CellFits w.from ((eager m pre).bases u.base)) w v k.source (held m pre (between ++ op ∷ back) w far far_fit) in
     let holds2 : CellFits w.to ((eager m pre).bases v.base) = subst (λ e. CellFits e ((eager m pre).bases v.base)) k.types holds in
-    let there : eager m front ≡ eager (step (eager m pre) w) between = ap (eager m) k.found.split ∙ eager-append m pre (w ∷ between) in
-    (t.shape_x ∙ sym t.shape_v,
-    subst (λ (n : Memory). read (n.bases k.view.base) (elements k.view) ≡ read (n.bases v.base) (elements v)) (sym there)
-    (copy_shows (eager m pre) w out.0 k.view v between t.wrote k.code k.source second holds2 t.size t.base t.whole t.spared_w t.spared))
+    let there : eager m front ≡ eager (step (eager m pre) w) between = ap (eager m) k.found.split ∙ eager-append m pre (w ∷ between) in (
+      t.shape_x ∙ sym t.shape_v,
+      subst (λ (n : Memory). read (n.bases k.view.base) (elements k.view) ≡ read (n.bases v.base) (elements v)) (sym there)
+          (copy_shows (eager m pre) w out.0 k.view v between t.wrote k.code k.source second holds2 t.size t.base t.whole t.spared_w t.spared),
+    )
   where
     one : (b : Bool) → (b || false) ≡ true → b ≡ true
     one true h = refl
@@ -200,12 +213,14 @@ copy_carried_keeps m front back op next formed fit e =
   where
     n : Memory
     n = eager m front
+
     by_second : (b : Option Strided) → copied_operand front (op ∷ back) op.second ≡ b → second_view op b ≡ Some next → step n op ≡ step n next
     by_second None q g = absurd (cc)
     by_second (Some v) q g =
         let k : Copied front op.second v = copied front (op ∷ back) op.second v q in
         let same : with_second op (Array v) ≡ next = cc in
         second_copied n op k.view v k.is (copy_reads m front back op formed fit op.second v k (at_second (λ (u : Strided). has (named op) u.base ≡ true) op k.view k.is (inputs_named op))).1 ∙ ap (step n) same
+
     by_first : (a b : Option Strided) → copied_operand front (op ∷ back) op.first ≡ a → copied_operand front (op ∷ back) op.second ≡ b → option_or (first_view op a) (second_view op b) ≡ Some next → step n op ≡ step n next
     by_first None b p q g = by_second b q g
     by_first (Some v) b p q g =

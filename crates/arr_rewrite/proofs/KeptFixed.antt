@@ -1,22 +1,22 @@
 -- A constant that alone decides keeps the memory that a formed list leaves.
-use Rattle.std.proofs.Common.{◌≡◌, ℕ, suc, zero, ℤ, pos, List, [], ◌∷◌, ◌++◌, Bool, true, false, ◌&&◌, refl, ap, ap₂, sym, subst, ◌∙◌, arith, Option, Some, None, length, replicate, map, get_or}
+use Rattle.std.proofs.Common.{◌≡◌, ℕ, suc, zero, ℤ, pos, List, [], ◌∷◌, ◌++◌, true, refl, ap, ap₂, sym, subst, ◌∙◌, arith, Option, Some, None, length, replicate}
 use Rattle.std.specs.Prelude.{is_some}
 use Rattle.std.specs.List.{AllByRecursion}
 use Rattle.arr_view.specs.Strided.{Strided}
 use Rattle.arr_view.specs.Views.{elements, positions}
-use Rattle.arr_ops.specs.Ops.{inputs, view_of}
+use Rattle.arr_ops.specs.Ops.{inputs}
 use Rattle.arr_num.specs.Kinds.{kind}
 use Rattle.arr_num.specs.Numbers.{in_type, value}
 use Rattle.arr_num.specs.declared.elem.Elem.{Elem}
 use Rattle.arr_num.specs.declared.code.Code.TheVariants.{Identity}
-use Rattle.arr_ops.specs.Memory.{Memory, Cell, eager, step, zip_with, operand, read, out_lengths}
-use Rattle.arr_ops.specs.Formed.{types_kept, elementwise, plain, well_formed}
+use Rattle.arr_ops.specs.Memory.{Memory, eager, step, zip_with, operand, read, out_lengths}
+use Rattle.arr_ops.specs.Formed.{elementwise, plain, well_formed}
 use Rattle.arr_ops.specs.declared.op.Op.{Op}
 use Rattle.arr_ops.specs.declared.op.Operand.{Operand}
 use Rattle.arr_ops.specs.declared.op.Operand.TheVariants.{Array, Number}
 use Rattle.arr_ops.proofs.Tests.{both_left, both_right}
 use Rattle.arr_ops.proofs.Typed.{zero_in, AllIn, CellFits, read_in}
-use Rattle.arr_ops.proofs.Spots.{is_scalar, Formed, held, well_at, operands_of, types_of, scalar_elementwise, by_output, Plain, plain_at}
+use Rattle.arr_ops.proofs.Spots.{is_scalar, held, well_at, operands_of, types_of, scalar_elementwise, by_output, Plain, plain_at}
 use Rattle.arr_num.proofs.Wrapping.{wrap_same}
 use Rattle.arr_rewrite.specs.Rules.{fixed_right, fixed_left, fixed_to, fixed_beside, fixed_known, constant_op}
 use Rattle.arr_rewrite.proofs.Codes.{OneType, fixed_right_code, fixed_left_code}
@@ -64,23 +64,31 @@ decided op next (Some (Array x)) (Some (Number c)) p q e = at (fixed_right op.co
     at : (o : Option ℤ) → fixed_right op.code op.to c ≡ o → fixed_to op o ≡ Some next → Decided op next
     at None r f = absurd (cc)
     at (Some z) r f = record {
-      number = z; code = fixed_right_code op.code op.to c z r; inside = (fixed_right_law op.code op.to (pos 0) c z (zero_in op.to) r).1; is = cc;
+      number = z;
+      code = fixed_right_code op.code op.to c z r;
+      inside = (fixed_right_law op.code op.to (pos 0) c z (zero_in op.to) r).1;
+      is = cc;
       results = λ m same cells sizes.
-        let cell : CellFits op.to (m.bases x.base) = subst (λ t. CellFits t (m.bases x.base)) (sym same) (at_first (λ (v : Strided). CellFits op.from (m.bases v.base)) op x p cells) in
-        let long : length (read (m.bases x.base) (elements x)) ≡ walk_length op = length_read (m.bases x.base) (elements x) ∙ at_first (λ (v : Strided). length (elements v) ≡ walk_length op) op x p sizes in
-        ap₂ (λ a b. zip_with (value op.code op.to) (operand m (walk_length op) a) (operand m (walk_length op) b)) p q
-        ∙ zip_right (value op.code op.to) op.to c z (λ y k. (fixed_right_law op.code op.to y c z k r).0) (read (m.bases x.base) (elements x)) (walk_length op) (read_in op.to (m.bases x.base) (elements x) cell) long; }
+          let cell : CellFits op.to (m.bases x.base) = subst (λ t. CellFits t (m.bases x.base)) (sym same) (at_first (λ (v : Strided). CellFits op.from (m.bases v.base)) op x p cells) in
+          let long : length (read (m.bases x.base) (elements x)) ≡ walk_length op = length_read (m.bases x.base) (elements x) ∙ at_first (λ (v : Strided). length (elements v) ≡ walk_length op) op x p sizes in
+          ap₂ (λ a b. zip_with (value op.code op.to) (operand m (walk_length op) a) (operand m (walk_length op) b)) p q
+          ∙ zip_right (value op.code op.to) op.to c z (λ y k. (fixed_right_law op.code op.to y c z k r).0) (read (m.bases x.base) (elements x)) (walk_length op) (read_in op.to (m.bases x.base) (elements x) cell) long;
+    }
 decided op next (Some (Number c)) (Some (Array x)) p q e = at (fixed_left op.code op.to c) refl e
   where
     at : (o : Option ℤ) → fixed_left op.code op.to c ≡ o → fixed_to op o ≡ Some next → Decided op next
     at None r f = absurd (cc)
     at (Some z) r f = record {
-      number = z; code = fixed_left_code op.code op.to c z r; inside = (fixed_left_law op.code op.to (pos 0) c z (zero_in op.to) r).1; is = cc;
+      number = z;
+      code = fixed_left_code op.code op.to c z r;
+      inside = (fixed_left_law op.code op.to (pos 0) c z (zero_in op.to) r).1;
+      is = cc;
       results = λ m same cells sizes.
-        let cell : CellFits op.to (m.bases x.base) = subst (λ t. CellFits t (m.bases x.base)) (sym same) (at_second (λ (v : Strided). CellFits op.from (m.bases v.base)) op x q cells) in
-        let long : length (read (m.bases x.base) (elements x)) ≡ walk_length op = length_read (m.bases x.base) (elements x) ∙ at_second (λ (v : Strided). length (elements v) ≡ walk_length op) op x q sizes in
-        ap₂ (λ a b. zip_with (value op.code op.to) (operand m (walk_length op) a) (operand m (walk_length op) b)) p q
-        ∙ zip_left (value op.code op.to) op.to c z (λ y k. (fixed_left_law op.code op.to y c z k r).0) (read (m.bases x.base) (elements x)) (walk_length op) (read_in op.to (m.bases x.base) (elements x) cell) long; }
+          let cell : CellFits op.to (m.bases x.base) = subst (λ t. CellFits t (m.bases x.base)) (sym same) (at_second (λ (v : Strided). CellFits op.from (m.bases v.base)) op x q cells) in
+          let long : length (read (m.bases x.base) (elements x)) ≡ walk_length op = length_read (m.bases x.base) (elements x) ∙ at_second (λ (v : Strided). length (elements v) ≡ walk_length op) op x q sizes in
+          ap₂ (λ a b. zip_with (value op.code op.to) (operand m (walk_length op) a) (operand m (walk_length op) b)) p q
+          ∙ zip_left (value op.code op.to) op.to c z (λ y k. (fixed_left_law op.code op.to y c z k r).0) (read (m.bases x.base) (elements x)) (walk_length op) (read_in op.to (m.bases x.base) (elements x) cell) long;
+    }
 decided op next None second p q e = absurd (cc)
 decided op next (Some (Array x)) None p q e = absurd (cc)
 decided op next (Some (Array x)) (Some (Array y)) p q e = absurd (cc)
@@ -98,8 +106,8 @@ fixed_known_keeps m front back op next h f e =
     let el : elementwise op ≡ true = scalar_elementwise (kind op.code) op s (operands_of op well) in
     by_output (λ k. eager m (front ++ op ∷ back) ≡ eager m (front ++ next ∷ back)) op
     (λ o out. let p : Plain op o = plain_at op o out well el in
-      let sizes : AllByRecursion (λ (v : Strided). length (elements v) ≡ walk_length op) (inputs op) =
-      subst (λ k. AllByRecursion (λ (v : Strided). length (elements v) ≡ k) (inputs op)) (sym (ap (λ u. positions (out_lengths u)) out)) p.sizes in
-      same_step m front back op next
-      (constant_results (eager m front) op d.number s p.no_slot d.inside (d.results (eager m front) (d.code.types op (types_of op well)) (held m front back op h f) sizes) ∙ ap (step (eager m front)) d.is))
+    let sizes : AllByRecursion (λ (v : Strided). length (elements v) ≡ walk_length op) (inputs op) =
+    subst (λ k. AllByRecursion (λ (v : Strided). length (elements v) ≡ k) (inputs op)) (sym (ap (λ u. positions (out_lengths u)) out)) p.sizes in
+    same_step m front back op next
+    (constant_results (eager m front) op d.number s p.no_slot d.inside (d.results (eager m front) (d.code.types op (types_of op well)) (held m front back op h f) sizes) ∙ ap (step (eager m front)) d.is))
     (both_left (is_some op.out) _ (both_right (plain op) _ el))

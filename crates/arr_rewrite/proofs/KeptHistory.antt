@@ -1,5 +1,5 @@
 -- The rules that look at the only writer of a base keep the memory that a formed list leaves.
-use Rattle.std.proofs.Common.{◌≡◌, ◌≢◌, ℕ, ◌+◌, ◌<◌, ℤ, List, [], ◌∷◌, ◌++◌, Bool, true, false, cond, not, ◌||◌, ◌&&◌, refl, ap, sym, subst, ◌∙◌, Option, Some, None, map, length}
+use Rattle.std.proofs.Common.{◌≡◌, ℕ, ◌<◌, ℤ, List, [], ◌∷◌, ◌++◌, Bool, true, false, cond, not, ◌||◌, ◌&&◌, refl, ap, sym, subst, ◌∙◌, Option, Some, None, map, length}
 use Rattle.std.proofs.lemmas.Bool.{false≢true, eqb-true, eq-eqb, ltb-true}
 use Rattle.std.specs.Prelude.{◌==◌, is_some, nat_eq, nat_lt, replicate}
 use Rattle.std.specs.List.{AllByRecursion, list_all, list_any}
@@ -85,9 +85,10 @@ has_append_left (x ∷ xs) ys b h = or_cases (nat_eq b x) (has xs b) h (λ t. ap
 
 bases_had : (vs : List Strided) → AllByRecursion (λ (v : Strided). has (map (λ (w : Strided). w.base) vs) v.base ≡ true) vs
 bases_had [] = tt
-bases_had (v ∷ vs) =
-    (ap (λ k. k || has (map (λ (w : Strided). w.base) vs) v.base) (eq-eqb v.base v.base refl),
-    All_weaker (λ (u : Strided). has (map (λ (w : Strided). w.base) vs) u.base ≡ true) (λ (u : Strided). has (map (λ (w : Strided). w.base) (v ∷ vs)) u.base ≡ true) (λ u t. second (nat_eq u.base v.base) _ t) vs (bases_had vs))
+bases_had (v ∷ vs) = (
+  ap (λ k. k || has (map (λ (w : Strided). w.base) vs) v.base) (eq-eqb v.base v.base refl),
+  All_weaker (λ (u : Strided). has (map (λ (w : Strided). w.base) vs) u.base ≡ true) (λ (u : Strided). has (map (λ (w : Strided). w.base) (v ∷ vs)) u.base ≡ true) (λ u t. second (nat_eq u.base v.base) _ t) vs (bases_had vs),
+)
   where
     second : (x y : Bool) → y ≡ true → (x || y) ≡ true
     second true y h = refl
@@ -123,11 +124,15 @@ wrote pre between back w op o formed makes out names alone =
     let order : AllByRecursion (λ f. may_precede f op ≡ true) front = pairs_before (λ f g. may_precede f g ≡ true) front op back formed.order in
     let later : AllByRecursion (λ f. may_precede f op ≡ true) between = (all_right (λ f. may_precede f op ≡ true) pre (w ∷ between) order).1 in
     record {
-      out = out; makes = makes; frees = bare.no_free;
+      out = out;
+      makes = makes;
+      frees = bare.no_free;
       left = all_two (λ f. not (writes_base f o.base) ≡ true) (λ f. may_precede f op ≡ true) (Leaves o.base)
-        (λ f a b. record { outputs_not = unwritten_outputs o.base f.out a;
-          freed_not = unfreed_base f.frees (named op) o.base (both_right (not op.makes || list_all (λ (u : Strided). not (has (named f) u.base)) (outputs op)) _ b) names })
-        between (all_of (λ f. not (writes_base f o.base)) between alone) later;
+          (λ f a b. record {
+            outputs_not = unwritten_outputs o.base f.out a;
+            freed_not = unfreed_base f.frees (named op) o.base (both_right (not op.makes || list_all (λ (u : Strided). not (has (named f) u.base)) (outputs op)) _ b) names;
+          })
+          between (all_of (λ f. not (writes_base f o.base)) between alone) later;
     }
 
 -- ---- 5

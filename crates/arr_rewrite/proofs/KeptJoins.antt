@@ -1,5 +1,5 @@
 -- Two constants joined keep the memory that a formed list leaves.
-use Rattle.std.proofs.Common.{◌≡◌, ◌≢◌, ◌+◌, ◌<◌, List, ◌∷◌, ◌++◌, Bool, true, false, cond, ◌||◌, ◌&&◌, refl, ap, sym, subst, ◌∙◌, Option, Some, None}
+use Rattle.std.proofs.Common.{◌≡◌, List, ◌∷◌, ◌++◌, Bool, true, false, cond, ◌||◌, ◌&&◌, refl, ap, sym, subst, ◌∙◌, Option, Some, None}
 use Rattle.std.proofs.lemmas.Bool.{false≢true, eq-eqb}
 use Rattle.std.specs.Prelude.{◌==◌, is_some}
 use Rattle.std.specs.List.{AllByRecursion, list_any}
@@ -93,12 +93,16 @@ joined_found front back op next x e =
             | true ↦ λ t f.
                 elim (beside w.op.first w.op.second) as (λ b. beside w.op.first w.op.second ≡ b → joined op x.number w.between b ≡ Some next → Joined front op next x) [
                   | None ↦ λ q r. absurd (cc)
-                  | Some y ↦ λ q r. record { writer = w; found = found_before front back x.view.base w d;
-                      code = same_code_is op.code w.op.code (both_left (same_code op.code w.op.code) (list_any (identical x.view) (outputs w.op)) t);
-                      same = both_right (same_code op.code w.op.code) (list_any (identical x.view) (outputs w.op)) t;
-                      source = y; reads = q;
-                      clean = some_true (unspoiled w.between y.view) (code_op op op.code y.view (Number (value op.code op.to y.number x.number))) next r;
-                      becomes = some_same (unspoiled w.between y.view) (code_op op op.code y.view (Number (value op.code op.to y.number x.number))) next r }
+                  | Some y ↦ λ q r. record {
+                    writer = w;
+                    found = found_before front back x.view.base w d;
+                    code = same_code_is op.code w.op.code (both_left (same_code op.code w.op.code) (list_any (identical x.view) (outputs w.op)) t);
+                    same = both_right (same_code op.code w.op.code) (list_any (identical x.view) (outputs w.op)) t;
+                    source = y;
+                    reads = q;
+                    clean = some_true (unspoiled w.between y.view) (code_op op op.code y.view (Number (value op.code op.to y.number x.number))) next r;
+                    becomes = some_same (unspoiled w.between y.view) (code_op op op.code y.view (Number (value op.code op.to y.number x.number))) next r;
+                  }
                 ] refl f
           ] refl g
     ] refl e
@@ -117,17 +121,17 @@ joined_step m front back op next x formed re first k =
     let same : identical x.view out.0 ≡ true = one (identical x.view out.0) (ap (λ (u : Option Strided). list_any (identical x.view) (option_to_list u)) (sym out.1) ∙ k.same) in
     let t : Traced w out.0 x.view k.source.view between =
     traced pre between back w op out.0 x.view k.source.view moved k.found.makes out.1 (ap (λ c. is_scalar (kind c)) k.code ∙ r.scalar) same (ap (unwritten_base between) out.2 ∙ k.found.alone)
-      (beside_input (λ (u : Strided). has (named op) u.base ≡ true) op.first op.second x first (inputs_named op)) k.clean (λ P h. beside_input P w.first w.second k.source k.reads h) in
+    (beside_input (λ (u : Strided). has (named op) u.base ≡ true) op.first op.second x first (inputs_named op)) k.clean (λ P h. beside_input P w.first w.second k.source k.reads h) in
     let types : same_types w op ≡ true =
     (all_right (λ g. same_types w g ≡ true) (pre ++ w ∷ between) (op ∷ back)
-      (all_right (λ f. AllByRecursion (λ g. same_types f g ≡ true) ((pre ++ w ∷ between) ++ op ∷ back)) pre (w ∷ between)
-        (all_left (λ f. AllByRecursion (λ g. same_types f g ≡ true) ((pre ++ w ∷ between) ++ op ∷ back)) (pre ++ w ∷ between) (op ∷ back) moved.types)).0).0 in
+    (all_right (λ f. AllByRecursion (λ g. same_types f g ≡ true) ((pre ++ w ∷ between) ++ op ∷ back)) pre (w ∷ between)
+    (all_left (λ f. AllByRecursion (λ g. same_types f g ≡ true) ((pre ++ w ∷ between) ++ op ∷ back)) (pre ++ w ∷ between) (op ∷ back) moved.types)).0).0 in
     let to : w.to ≡ op.from =
     beside_input (λ (u : Strided). (out.0.base == u.base) ≡ true → w.to ≡ op.from) op.first op.second x first (writes_typed w op types out.0 out.1) (eq-eqb out.0.base x.view.base out.2) in
     let walk : (op.slot ≡ None) × (walk_length op ≡ positions out.0.lengths) =
     by_output (λ f. (op.slot ≡ None) × (walk_length op ≡ positions out.0.lengths)) op
     (λ o e. let p : Plain op o = plain_at op o e well el in
-      (p.no_slot, ap (λ u. positions (out_lengths u)) e ∙ ap positions (sym (beside_input (λ (u : Strided). u.lengths ≡ o.lengths) op.first op.second x first p.shapes) ∙ t.shape_x)))
+    (p.no_slot, ap (λ u. positions (out_lengths u)) e ∙ ap positions (sym (beside_input (λ (u : Strided). u.lengths ≡ o.lengths) op.first op.second x first p.shapes) ∙ t.shape_x)))
     (both_left (is_some op.out) _ (both_right (plain op) _ el)) in
     let there : eager m front ≡ eager (step (eager m pre) w) between = ap (eager m) k.found.split ∙ eager-append m pre (w ∷ between) in
     subst (λ (n : Memory). step n op ≡ step n (code_op op op.code k.source.view (Number (value op.code op.to k.source.number x.number)))) (sym there)

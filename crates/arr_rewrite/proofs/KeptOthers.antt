@@ -58,7 +58,7 @@ folded_step m op next None second s none p q e = absurd (cc)
 pub constant_folded_keeps : KeepsMemory constant_folded
 constant_folded_keeps m front back op next h f e =
     elim (scalar_code op.code) as (λ t. scalar_code op.code ≡ t → cond (t && not (is_identity op.code)) (known_value op op.first op.second) None ≡ Some next
-      → eager m (front ++ op ∷ back) ≡ eager m (front ++ next ∷ back)) [
+    → eager m (front ++ op ∷ back) ≡ eager m (front ++ next ∷ back)) [
       | false ↦ λ s g. absurd (cc)
       | true ↦ λ t g.
           let s : is_scalar (kind op.code) ≡ true = scalar_kind op.code t in

@@ -1,16 +1,15 @@
 -- Rule 4 keeps the memory.
-use Rattle.std.proofs.Common.{◌≡◌, ℕ, ◌+◌, ◌*◌, ◌^◌, suc, zero, ℤ, pos, negsuc, List, [], ◌∷◌, ◌++◌, true, false, cond, ◌&&◌, refl, ap, ap₂, sym, ◌∙◌, arith, Option, Some, None, replicate, length}
-use Rattle.std.proofs.lemmas.List.{length-map}
+use Rattle.std.proofs.Common.{◌≡◌, ℕ, ◌*◌, ◌^◌, suc, zero, ℤ, pos, negsuc, List, [], ◌∷◌, ◌++◌, true, false, cond, refl, ap, ap₂, sym, ◌∙◌, arith, Option, Some, None, replicate, length}
 use Rattle.std.proofs.lemmas.Int.{ints}
 use Rattle.std.proofs.Math.Nat.{pow-zero, pow-suc}
 use Rattle.std.proofs.Math.IntN.{pos-*ℤ-pos, negsuc-*ℤ-negsuc}
-use Rattle.std.specs.Prelude.{◌*ℤ◌, is_some, get_or}
+use Rattle.std.specs.Prelude.{◌*ℤ◌, is_some}
 use Rattle.std.specs.Int.{int_pow}
 use Rattle.arr_view.specs.Strided.{Strided}
 use Rattle.arr_view.specs.Views.{elements, positions}
 use Rattle.arr_num.specs.Kinds.{kind}
 use Rattle.arr_num.specs.Numbers.{value, wrap, same}
-use Rattle.arr_ops.specs.Memory.{Memory, Cell, eager, step, zip_with, operand, read, computed, out_lengths}
+use Rattle.arr_ops.specs.Memory.{Memory, eager, step, zip_with, operand, read, computed, out_lengths}
 use Rattle.arr_ops.specs.Formed.{elementwise, plain, well_formed}
 use Rattle.arr_ops.proofs.Spots.{is_scalar, well_at, operands_of, scalar_elementwise, by_output, Plain, plain_at}
 use Rattle.arr_rewrite.specs.Rules.{power_unrolled, small_power, constant_op, copy_op, code_op}
@@ -110,7 +109,7 @@ power_unrolled_keeps m front back op next h f e =
     let el : elementwise op ≡ true = scalar_elementwise (kind op.code) op (power_scalar op.code op next op.first op.second e) (operands_of op well) in
     by_output (λ k. eager m (front ++ op ∷ back) ≡ eager m (front ++ next ∷ back)) op
     (λ o out. let p : Plain op o = plain_at op o out well el in
-      same_step m front back op next
-      (power_step (eager m front) op next op.code op.first op.second p.no_slot refl refl refl
-        (λ x first. at_first (λ (v : Strided). length (elements v) ≡ positions o.lengths) op x first p.sizes ∙ sym (ap (λ u. positions (out_lengths u)) out)) e))
+    same_step m front back op next
+    (power_step (eager m front) op next op.code op.first op.second p.no_slot refl refl refl
+    (λ x first. at_first (λ (v : Strided). length (elements v) ≡ positions o.lengths) op x first p.sizes ∙ sym (ap (λ u. positions (out_lengths u)) out)) e))
     (both_left (is_some op.out) _ (both_right (plain op) _ el))

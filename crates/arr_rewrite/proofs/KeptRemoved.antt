@@ -1,5 +1,5 @@
 -- The rules that remove operations keep the memory that a formed list leaves.
-use Rattle.std.proofs.Common.{◌≡◌, ◌≢◌, ℕ, ◌+◌, ◌<◌, List, [], ◌∷◌, ◌++◌, Bool, true, false, cond, not, ◌||◌, ◌&&◌, refl, ap, ap₂, sym, subst, ◌∙◌, Option, Some, None}
+use Rattle.std.proofs.Common.{◌≡◌, ℕ, List, [], ◌∷◌, ◌++◌, Bool, true, false, cond, not, ◌||◌, ◌&&◌, refl, ap, ap₂, sym, subst, ◌∙◌, Option, Some, None}
 use Rattle.std.proofs.lemmas.Bool.{false≢true, eqb-true, eq-eqb, ne_eqb, eqb-false}
 use Rattle.std.specs.Prelude.{◌==◌, is_some, is_none, nat_eq}
 use Rattle.std.specs.List.{AllByRecursion, list_all, list_any}
@@ -51,8 +51,14 @@ find_itself op None first second p q r n h = absurd (false≢true h)
 find_itself op (Some o) None None p q r n h = absurd (or_cases false false h false≢true false≢true)
 find_itself op (Some o) (Some (Number z)) None p q r n h = absurd (or_cases false false h false≢true false≢true)
 find_itself op (Some o) (Some (Array v)) None p q r n h =
-    record { o = o; v = v; out = p; first = q; second = r;
-      same = or_cases (identical o v || false) false h (λ t. or_cases (identical o v) false t (λ s. s) (λ s. absurd (false≢true s))) (λ t. absurd (false≢true t)) }
+    record {
+      o = o;
+      v = v;
+      out = p;
+      first = q;
+      second = r;
+      same = or_cases (identical o v || false) false h (λ t. or_cases (identical o v) false t (λ s. s) (λ s. absurd (false≢true s))) (λ t. absurd (false≢true t));
+    }
 find_itself op out first (Some x) p q r n h = absurd (false≢true n)
 
 pub input_apart : (op : Op) (out : Option Strided) (o v : Strided) (makes : Bool) → out ≡ Some o → op.first ≡ Some (Array v)
@@ -152,8 +158,9 @@ only_freeing : (f : Op) (b : ℕ) → Free f → frees_base f b ≡ true → Onl
 only_freeing f b h e = record {
   no_slot = h.no_slot;
   elsewhere = λ xs c n.
-    ap (λ t. cond t Drops (output_change f.out f.makes f.to xs c)) (other f.frees b c e n)
-    ∙ ap (λ o. output_change o f.makes f.to xs c) h.no_out; }
+      ap (λ t. cond t Drops (output_change f.out f.makes f.to xs c)) (other f.frees b c e n)
+      ∙ ap (λ o. output_change o f.makes f.to xs c) h.no_out;
+}
   where
     other : (frees : Option ℕ) (b c : ℕ) → has (option_to_list frees) b ≡ true → (c == b) ≡ false → has (option_to_list frees) c ≡ false
     other None b c e n = refl
@@ -165,14 +172,16 @@ only_making : (op : Op) (o : Strided) → Bare op → op.out ≡ Some o → Only
 only_making op o h e = record {
   no_slot = h.no_slot;
   elsewhere = λ xs c n.
-    ap (λ f. cond (has (option_to_list f) c) Drops (output_change op.out op.makes op.to xs c)) h.no_free
-    ∙ ap (λ u. output_change u op.makes op.to xs c) e
-    ∙ ap (λ t. cond t (cond op.makes (Becomes (record { elem = op.to; numbers = xs })) (Writes (elements o) xs)) Keeps) (ne_eqb o.base c (λ d. eqb-false c o.base n (sym d))); }
+      ap (λ f. cond (has (option_to_list f) c) Drops (output_change op.out op.makes op.to xs c)) h.no_free
+      ∙ ap (λ u. output_change u op.makes op.to xs c) e
+      ∙ ap (λ t. cond t (cond op.makes (Becomes (record { elem = op.to; numbers = xs })) (Writes (elements o) xs)) Keeps) (ne_eqb o.base c (λ d. eqb-false c o.base n (sym d)));
+}
 
 passes : (b : ℕ) (f : Op) → well_formed f ≡ true → (frees_base f b || not (has (named f) b)) ≡ true → Passes b f
-passes b f well h =
-    ((λ t. only_freeing f b (free_bare (kind f.code) f b (operands_of f well) t) t),
-    (λ t. unnamed_test b f (turned (frees_base f b) (has (named f) b) h t)))
+passes b f well h = (
+  (λ t. only_freeing f b (free_bare (kind f.code) f b (operands_of f well) t) t),
+  (λ t. unnamed_test b f (turned (frees_base f b) (has (named f) b) h t)),
+)
   where
     turned : (x y : Bool) → (x || not y) ≡ true → x ≡ false → y ≡ false
     turned true y h t = absurd (false≢true (sym t))

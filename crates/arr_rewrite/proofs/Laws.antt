@@ -5,7 +5,7 @@ use Rattle.std.specs.List.{AllByRecursion, list_all, range_with_len}
 use Rattle.arr_view.specs.Views.{same_lists}
 use Rattle.arr_ops.specs.declared.op.Op.{Op}
 use Rattle.arr_ops.specs.Memory.{Memory, eager}
-use Rattle.arr_ops.specs.Formed.{is_formed, well_formed, inside_made, same_types, may_precede, each_inside, each_typed, slots_ascend, slot_numbers, all_pairs}
+use Rattle.arr_ops.specs.Formed.{is_formed, well_formed, inside_made, same_types, may_precede, each_inside, each_typed, slots_ascend, all_pairs}
 use Rattle.arr_ops.specs.Fits.{fits}
 use Rattle.arr_ops.proofs.Pairs.{Pairs, All_weaker}
 use Rattle.arr_ops.proofs.Tests.{both_left, both_right, test_all}
@@ -78,7 +78,8 @@ record Leads (m k : Memory) (list : List Op) : Type 0 where
 leads_falls : (m k : Memory) → Falls (Leads m k)
 leads_falls m k = record {
   kept = λ list next h e. record { formed = next_formed list next h.formed e; fitting = next_fits m list next h.formed h.fitting e; leaves = sym (next_keeps m list next h.formed h.fitting e) ∙ h.leaves };
-  less = λ list next h e. next_falls list next h.formed e; }
+  less = λ list next h e. next_falls list next h.formed e;
+}
 
 normal_leads : (m : Memory) (list : List Op) → is_formed list ≡ true → fits m list ≡ true → Leads m (eager m list) (normal_form list)
 normal_leads m list h f = stays (Leads m (eager m list)) (leads_falls m (eager m list)) list (record { formed = h; fitting = f; leaves = refl })

@@ -1,5 +1,5 @@
 -- Each application lowers the potential.
-use Rattle.std.proofs.Common.{◌≡◌, ◌≢◌, ℕ, ◌+◌, ◌*◌, ◌<◌, ◌≤◌, suc, zero, ℤ, List, [], ◌∷◌, ◌++◌, Bool, true, false, cond, not, ◌||◌, ◌&&◌, refl, ap, ap₂, sym, subst, ◌∙◌, arith, length}
+use Rattle.std.proofs.Common.{◌≡◌, ℕ, ◌+◌, ◌*◌, ◌<◌, ◌≤◌, suc, zero, ℤ, List, [], ◌∷◌, ◌++◌, Bool, true, false, cond, not, refl, ap, ap₂, sym, subst, ◌∙◌, arith, length}
 use Rattle.std.proofs.Math.Nat.{mul-le-mul_left}
 use Rattle.std.proofs.lemmas.Bool.{false≢true}
 use Rattle.std.specs.Prelude.{◌==◌}
@@ -207,7 +207,7 @@ unused_falls b front back op only before behind =
     let less : (v : Strided) → (v.base == b) ≡ false → p v.base ≤ q v.base = λ v e.
     let x : maker_place (front ++ unfreed back b) v.base ≤ maker_place (front ++ back) v.base =
     maker_after v.base front (unfreed back b) back (maker_filtered v.base b back (weaker (λ f. (frees_base f b ≡ true → (c : ℕ) → makes_base f c ≡ false) × (frees_base f b ≡ false → AllByRecursion (λ (v : Strided). (v.base == b) ≡ false) (inputs f)))
-      (λ f. frees_base f b ≡ true → makes_base f v.base ≡ false) (λ f g t. g.0 t v.base) back behind)) in
+    (λ f. frees_base f b ≡ true → makes_base f v.base ≡ false) (λ f g t. g.0 t v.base) back behind)) in
     let y : maker_place (front ++ back) v.base ≤ maker_place (front ++ op ∷ back) v.base = maker_removed v.base op (only v.base e) front back in omega arith in
     let one : (f : Op) → AllByRecursion (λ (v : Strided). (v.base == b) ≡ false) (inputs f) → op_worth p f ≤ op_worth q f =
     λ f h. op_worth_less p q f (weaker (λ (v : Strided). (v.base == b) ≡ false) (λ (v : Strided). p v.base ≤ q v.base) less (inputs f) h) in
@@ -216,7 +216,7 @@ unused_falls b front back op only before behind =
     let a2 : total (op_worth p) (unfreed back b) ≤ total (op_worth q) back =
     filtered_less (op_worth p) (op_worth q) (λ f. not (frees_base f b)) back
     (weaker (λ f. (frees_base f b ≡ true → (c : ℕ) → makes_base f c ≡ false) × (frees_base f b ≡ false → AllByRecursion (λ (v : Strided). (v.base == b) ≡ false) (inputs f)))
-      (λ f. not (frees_base f b) ≡ true → op_worth p f ≤ op_worth q f) (λ f g t. one f (g.1 (turned (frees_base f b) t))) back behind) in
+    (λ f. not (frees_base f b) ≡ true → op_worth p f ≤ op_worth q f) (λ f g t. one f (g.1 (turned (frees_base f b) t))) back behind) in
     let b1 : total (op_worth p) (front ++ unfreed back b) ≡ total (op_worth p) front + total (op_worth p) (unfreed back b) = total-append (op_worth p) front (unfreed back b) in
     let c : total (op_worth q) (front ++ op ∷ back) ≡ total (op_worth q) front + (op_worth q op + total (op_worth q) back) = total-append (op_worth q) front (op ∷ back) in
     let d : 1 ≤ code_worth op.code = some_worth op.code in
@@ -225,6 +225,7 @@ unused_falls b front back op only before behind =
     turned : (t : Bool) → not t ≡ true → t ≡ false
     turned true h = absurd (false≢true h)
     turned false h = refl
+
     weaker : {X : Type 0} (P Q : X → Type 0) → ((x : X) → P x → Q x) → (xs : List X) → AllByRecursion P xs → AllByRecursion Q xs
     weaker P Q f [] h = tt
     weaker P Q f (x ∷ xs) h = (f x h.0, weaker P Q f xs h.1)

@@ -3,7 +3,6 @@ use Rattle.std.proofs.Common.{◌≡◌, List, [], ◌∷◌, ◌++◌, true, re
 use Rattle.arr_view.specs.Strided.{Strided}
 use Rattle.arr_ops.specs.Memory.{Memory, eager}
 use Rattle.arr_ops.specs.Fits.{fits}
-use Rattle.std.specs.Option.{option_or}
 use Rattle.std.specs.Bool.{then_some}
 use Rattle.arr_rewrite.specs.Rules.{constant_folded, neutral_dropped, fixed_known, power_unrolled, subtraction_turned, copies_itself}
 use Rattle.arr_rewrite.specs.NextRewrite.{constant_carried, copy_carried, constants_joined, replacement, replaced, unused, rewrite_at, rewrite_from, next_rewrite}
@@ -25,12 +24,12 @@ replacement_keeps m front back op next h f e =
     let Goal : Type 0 = eager m (front ++ op ∷ back) ≡ eager m (front ++ next ∷ back) in
     or_cases_of Goal (constant_folded op) _ next e (λ r. constant_folded_keeps m front back op next h f r)
     (λ e. or_cases_of Goal (neutral_dropped op) _ next e (λ r. neutral_dropped_keeps m front back op next h f r)
-      (λ e. or_cases_of Goal (fixed_known op) _ next e (λ r. fixed_known_keeps m front back op next h f r)
-        (λ e. or_cases_of Goal (power_unrolled op) _ next e (λ r. power_unrolled_keeps m front back op next h f r)
-          (λ e. or_cases_of Goal (constant_carried front op back) _ next e (λ r. constant_carried_keeps m front back op next h r)
-            (λ e. or_cases_of Goal (copy_carried front op back) _ next e (λ r. copy_carried_keeps m front back op next h f r)
-              (λ e. or_cases_of Goal (constants_joined front op back) (subtraction_turned op) next e (λ r. constants_joined_keeps m front back op next h r)
-                (λ r. subtraction_turned_keeps m front back op next h f r)))))))
+    (λ e. or_cases_of Goal (fixed_known op) _ next e (λ r. fixed_known_keeps m front back op next h f r)
+    (λ e. or_cases_of Goal (power_unrolled op) _ next e (λ r. power_unrolled_keeps m front back op next h f r)
+    (λ e. or_cases_of Goal (constant_carried front op back) _ next e (λ r. constant_carried_keeps m front back op next h r)
+    (λ e. or_cases_of Goal (copy_carried front op back) _ next e (λ r. copy_carried_keeps m front back op next h f r)
+    (λ e. or_cases_of Goal (constants_joined front op back) (subtraction_turned op) next e (λ r. constants_joined_keeps m front back op next h r)
+    (λ r. subtraction_turned_keeps m front back op next h f r)))))))
 
 replaced_keeps : (m : Memory) (front back : List Op) (op : Op) (next : List Op) (o : Option Op) → Formed (front ++ op ∷ back) → fits m (front ++ op ∷ back) ≡ true → replacement front op back ≡ o
     → replaced front back o ≡ Some next → eager m (front ++ op ∷ back) ≡ eager m next
@@ -50,8 +49,8 @@ rewrite_at_keeps m front back op next h f e =
     or_cases_of Goal (replaced front back (replacement front op back)) _ next e
     (λ r. replaced_keeps m front back op next (replacement front op back) h f refl r)
     (λ e. or_cases_of Goal (then_some (copies_itself op) (front ++ back)) (unused front op back op.out) next e
-      (λ r. copies_kept m front back op h f (some_true (copies_itself op) (front ++ back) next r) ∙ ap (eager m) (some_same (copies_itself op) (front ++ back) next r))
-      (λ r. unused_any m front back op next op.out h f refl r))
+    (λ r. copies_kept m front back op h f (some_true (copies_itself op) (front ++ back) next r) ∙ ap (eager m) (some_same (copies_itself op) (front ++ back) next r))
+    (λ r. unused_any m front back op next op.out h f refl r))
 
 rewrite_from_keeps : (m : Memory) (front back next : List Op) → Formed (front ++ back) → fits m (front ++ back) ≡ true → rewrite_from front back ≡ Some next → eager m (front ++ back) ≡ eager m next
 rewrite_from_keeps m front [] next h f e = absurd (cc)
@@ -59,9 +58,9 @@ rewrite_from_keeps m front (op ∷ back) next h f e =
     or_cases_of (eager m (front ++ op ∷ back) ≡ eager m next) (rewrite_at front op back) (rewrite_from (front ++ op ∷ []) back) next e
     (λ r. rewrite_at_keeps m front back op next h f r)
     (λ r.
-      let same : (front ++ op ∷ []) ++ back ≡ front ++ op ∷ back = append_assoc front (op ∷ []) back in
-      ap (eager m) (sym same)
-      ∙ rewrite_from_keeps m (front ++ op ∷ []) back next (subst Formed (sym same) h) (subst (λ l. fits m l ≡ true) (sym same) f) r)
+    let same : (front ++ op ∷ []) ++ back ≡ front ++ op ∷ back = append_assoc front (op ∷ []) back in
+    ap (eager m) (sym same)
+    ∙ rewrite_from_keeps m (front ++ op ∷ []) back next (subst Formed (sym same) h) (subst (λ l. fits m l ≡ true) (sym same) f) r)
 
 -- the next application leaves the memory that the list leaves
 pub next_keeps : (m : Memory) (list next : List Op) → Formed list → fits m list ≡ true → next_rewrite list ≡ Some next → eager m list ≡ eager m next

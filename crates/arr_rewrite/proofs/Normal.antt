@@ -1,5 +1,5 @@
 -- The normal form is reached: with the potential as fuel no application is left, and what each application keeps is kept.
-use Rattle.std.proofs.Common.{◌≡◌, ℕ, ◌<◌, ◌≤◌, suc, zero, List, refl, sym, ◌∙◌, arith, Option, Some, None}
+use Rattle.std.proofs.Common.{◌≡◌, ℕ, ◌<◌, ◌≤◌, suc, zero, List, refl, ◌∙◌, arith, Some, None}
 use Rattle.arr_rewrite.specs.NextRewrite.{next_rewrite}
 use Rattle.arr_rewrite.specs.NormalForm.{potential, normal_within, normal_form}
 use Rattle.arr_ops.specs.declared.op.Op.{Op}

@@ -1,11 +1,9 @@
 -- Lists taken apart and put together, and tests on them.
-use Rattle.std.proofs.Common.{◌≡◌, ℕ, List, [], ◌∷◌, ◌++◌, Bool, true, false, cond, not, ◌||◌, ◌&&◌, refl, ap, ap₂, sym, ◌∙◌, Option, Some, None, map}
+use Rattle.std.proofs.Common.{◌≡◌, ℕ, List, [], ◌∷◌, ◌++◌, Bool, true, false, not, ◌||◌, refl, ap₂, sym, ◌∙◌, map}
 use Rattle.std.proofs.lemmas.Bool.{false≢true, eqb-true, eq-eqb}
 use Rattle.std.specs.Prelude.{◌==◌, nat_eq}
-use Rattle.std.specs.List.{AllByRecursion, list_all, list_any, filter}
-use Rattle.arr_view.specs.Strided.{Strided}
+use Rattle.std.specs.List.{AllByRecursion, list_all}
 use Rattle.arr_view.specs.Views.{has}
-use Rattle.arr_ops.specs.declared.op.Op.{Op}
 use Rattle.arr_ops.proofs.Pairs.{Pairs, All_weaker}
 use Rattle.arr_ops.proofs.Tests.{all_of, test_all}
 use Rattle.arr_ops.proofs.Spots.{all_two}

@@ -1,23 +1,21 @@
 -- The rules that remove operations leave a formed list of less potential.
-use Rattle.std.proofs.Common.{◌≡◌, ℕ, ◌+◌, ◌<◌, List, [], ◌∷◌, ◌++◌, Bool, true, false, cond, not, ◌||◌, ◌&&◌, refl, ap, ap₂, sym, subst, ◌∙◌, Option, Some, None, map}
-use Rattle.std.proofs.lemmas.Bool.{false≢true, eqb-true, eq-eqb}
-use Rattle.std.specs.Prelude.{◌==◌, nat_eq, is_some, is_none}
+use Rattle.std.proofs.Common.{◌≡◌, ℕ, List, [], ◌∷◌, ◌++◌, Bool, true, false, cond, not, ◌||◌, ◌&&◌, refl, ap, ap₂, sym, subst, ◌∙◌, Option, Some, None, map}
+use Rattle.std.specs.Prelude.{◌==◌, nat_eq, is_some}
 use Rattle.std.specs.List.{AllByRecursion, list_all, list_any, filter}
 use Rattle.std.specs.Option.{option_to_list}
 use Rattle.arr_num.specs.Kinds.{kind, Unary}
 use Rattle.arr_view.specs.Strided.{Strided}
-use Rattle.arr_view.specs.Views.{has, identical, is_view}
-use Rattle.arr_ops.specs.Ops.{inputs, outputs, views, freed, named, makes_base, creates}
+use Rattle.arr_view.specs.Views.{has}
+use Rattle.arr_ops.specs.Ops.{inputs, outputs, freed, named, makes_base, creates}
 use Rattle.arr_ops.specs.Memory.{Memory}
-use Rattle.arr_ops.specs.Formed.{well_formed, kind_kept, operands_kept, inside_made, same_types, may_precede, elementwise, writes_once, slot_numbers}
-use Rattle.arr_ops.specs.Fits.{Need, needs, meets_need, fits, op_fits}
+use Rattle.arr_ops.specs.Formed.{well_formed, operands_kept, inside_made, same_types, may_precede, elementwise, slot_numbers}
+use Rattle.arr_ops.specs.Fits.{Need, needs, meets_need}
 use Rattle.arr_ops.specs.declared.op.Op.{Op}
 use Rattle.arr_ops.proofs.Pairs.{Pairs, All_weaker, All_filter}
 use Rattle.arr_ops.proofs.Tests.{both_left, both_right, all_of, test_all}
 use Rattle.arr_ops.proofs.Spots.{Formed, well_at, operands_of, all_right, all_two}
 use Rattle.arr_rewrite.specs.Rules.{copies_itself, is_identity}
 use Rattle.arr_rewrite.specs.NextRewrite.{frees_base, unfreed, only_freed, unused}
-use Rattle.arr_rewrite.specs.NormalForm.{potential}
 use Rattle.arr_rewrite.proofs.Options.{some_true, some_same}
 use Rattle.arr_rewrite.proofs.Parts.{all_join, map_all, equal_turned, not_is}
 use Rattle.arr_rewrite.proofs.Sources.{need_of, whole_of}
@@ -49,7 +47,8 @@ formed_without front back op h = record {
   well = all_without (λ f. well_formed f ≡ true) front back op h.well;
   inside = square_without (λ f g. inside_made f g ≡ true) front back op h.inside;
   types = square_without (λ f g. same_types f g ≡ true) front back op h.types;
-  order = pairs_without (λ f g. may_precede f g ≡ true) front back op h.order; }
+  order = pairs_without (λ f g. may_precede f g ≡ true) front back op h.order;
+}
 
 all_kept : {X : Type 0} (P : X → Type 0) (keep : X → Bool) (xs : List X) → AllByRecursion P xs → AllByRecursion P (filter keep xs)
 all_kept P keep xs h = All_filter P keep xs (All_weaker P (λ x. keep x ≡ true → P x) (λ x p e. p) xs h)
@@ -75,10 +74,11 @@ formed_filtered keep front back h = record {
   well = all_filtered (λ f. well_formed f ≡ true) keep front back h.well;
   inside = square (λ f g. inside_made f g ≡ true) h.inside;
   types = square (λ f g. same_types f g ≡ true) h.types;
-  order = pairs_filtered (λ f g. may_precede f g ≡ true) keep front back h.order; }
+  order = pairs_filtered (λ f g. may_precede f g ≡ true) keep front back h.order;
+}
   where
     square : (R : Op → Op → Type 0) → AllByRecursion (λ f. AllByRecursion (R f) (front ++ back)) (front ++ back)
-      → AllByRecursion (λ f. AllByRecursion (R f) (front ++ filter keep back)) (front ++ filter keep back)
+        → AllByRecursion (λ f. AllByRecursion (R f) (front ++ filter keep back)) (front ++ filter keep back)
     square R k =
         All_weaker (λ f. AllByRecursion (R f) (front ++ back)) (λ f. AllByRecursion (R f) (front ++ filter keep back)) (λ f j. all_filtered (R f) keep front back j) (front ++ filter keep back)
         (all_filtered (λ f. AllByRecursion (R f) (front ++ back)) keep front back k)
@@ -131,7 +131,7 @@ copies_follow front back op h e =
       formed = formed_without front back op h;
       slots = slots_without front back op (elementwise_bare op (both_left (elementwise op) _ kept)).no_slot;
       fits = λ m f. subst (λ (c : ℕ → Bool). list_all (fits_with m c) (front ++ back) ≡ true) same
-        (test_all (fits_with m (creates (front ++ op ∷ back))) (front ++ back)
+          (test_all (fits_with m (creates (front ++ op ∷ back))) (front ++ back)
           (all_without (λ g. fits_with m (creates (front ++ op ∷ back)) g ≡ true) front back op (all_of (fits_with m (creates (front ++ op ∷ back))) (front ++ op ∷ back) f)));
       falls = removed_falls front back op none;
     }
@@ -160,9 +160,9 @@ fits_apart : (m : Memory) (b : ℕ) (c d : ℕ → Bool) (f : Op) → ((k : ℕ)
 fits_apart m b c d f same h e =
     ap₂ (λ p q. p && q)
     (test_all (λ (n : Need). d n.base || meets_need (m.bases n.base) n) (needs f)
-      (all_two (λ (n : Need). (n.base == b) ≡ false) (λ (n : Need). (c n.base || meets_need (m.bases n.base) n) ≡ true) (λ (n : Need). (d n.base || meets_need (m.bases n.base) n) ≡ true)
-        (λ n a t. ap (λ k. k || meets_need (m.bases n.base) n) (sym (same n.base a)) ∙ t) (needs f) (needs_apart b f h)
-        (all_of (λ (n : Need). c n.base || meets_need (m.bases n.base) n) (needs f) (both_left (list_all (λ (n : Need). c n.base || meets_need (m.bases n.base) n) (needs f)) _ e))))
+    (all_two (λ (n : Need). (n.base == b) ≡ false) (λ (n : Need). (c n.base || meets_need (m.bases n.base) n) ≡ true) (λ (n : Need). (d n.base || meets_need (m.bases n.base) n) ≡ true)
+    (λ n a t. ap (λ k. k || meets_need (m.bases n.base) n) (sym (same n.base a)) ∙ t) (needs f) (needs_apart b f h)
+    (all_of (λ (n : Need). c n.base || meets_need (m.bases n.base) n) (needs f) (both_left (list_all (λ (n : Need). c n.base || meets_need (m.bases n.base) n) (needs f)) _ e))))
     (both_right (list_all (λ (n : Need). c n.base || meets_need (m.bases n.base) n) (needs f)) _ e)
 
 -- an operation that frees the base does nothing else, and another doesn't name it
@@ -173,7 +173,8 @@ record Aside (b : ℕ) (f : Op) : Type 0 where
 aside : (b : ℕ) (f : Op) → well_formed f ≡ true → (frees_base f b || not (has (named f) b)) ≡ true → Aside b f
 aside b f well h = record {
   frees = λ t. free_bare (kind f.code) f b (operands_of f well) t;
-  unnamed = λ t. not_is (has (named f) b) (ap (λ k. k || not (has (named f) b)) (sym t) ∙ h); }
+  unnamed = λ t. not_is (has (named f) b) (ap (λ k. k || not (has (named f) b)) (sym t) ∙ h);
+}
 
 free_makes_not : (f : Op) (c : ℕ) → Free f → makes_base f c ≡ false
 free_makes_not f c h = makes_not f.out f.makes c (subst (λ o. AllByRecursion (λ (v : Strided). (v.base == c) ≡ false) (option_to_list o)) (sym h.no_out) tt)
@@ -185,33 +186,33 @@ unused_follow front back next op o h out e =
     let t2 = both_right op.makes _ t in
     let before : AllByRecursion (λ f. has (named f) o.base ≡ false) front =
     All_weaker (λ f. not (has (named f) o.base) ≡ true) (λ f. has (named f) o.base ≡ false) (λ f k. not_is (has (named f) o.base) k) front
-      (all_of (λ f. not (has (named f) o.base)) front (both_left (list_all (λ f. not (has (named f) o.base)) front) _ t2)) in
+    (all_of (λ f. not (has (named f) o.base)) front (both_left (list_all (λ f. not (has (named f) o.base)) front) _ t2)) in
     let t3 = both_right (list_all (λ f. not (has (named f) o.base)) front) _ t2 in
     let behind : AllByRecursion (Aside o.base) back =
     all_two (λ f. well_formed f ≡ true) (λ f. (frees_base f o.base || not (has (named f) o.base)) ≡ true) (Aside o.base) (λ f w k. aside o.base f w k) back
-      ((all_right (λ f. well_formed f ≡ true) front (op ∷ back) h.well).1)
-      (all_of (λ f. frees_base f o.base || not (has (named f) o.base)) back (both_right (list_any (λ f. frees_base f o.base) back) _ t3)) in
+    ((all_right (λ f. well_formed f ≡ true) front (op ∷ back) h.well).1)
+    (all_of (λ f. frees_base f o.base || not (has (named f) o.base)) back (both_right (list_any (λ f. frees_base f o.base) back) _ t3)) in
     let only : (c : ℕ) → (c == o.base) ≡ false → makes_base op c ≡ false =
     λ c k. makes_not op.out op.makes c (subst (λ u. AllByRecursion (λ (v : Strided). (v.base == c) ≡ false) (option_to_list u)) (sym out) (equal_turned c o.base k, tt)) in
     let same : (c : ℕ) → (c == o.base) ≡ false → creates (front ++ op ∷ back) c ≡ creates (front ++ unfreed back o.base) c =
     λ c k. creates_without c op (only c k) front back
-      ∙ creates_after c front back (unfreed back o.base) (creates_filtered c o.base back (All_weaker (Aside o.base) (λ f. frees_base f o.base ≡ true → makes_base f c ≡ false) (λ f a u. free_makes_not f c (a.frees u)) back behind)) in
+    ∙ creates_after c front back (unfreed back o.base) (creates_filtered c o.base back (All_weaker (Aside o.base) (λ f. frees_base f o.base ≡ true → makes_base f c ≡ false) (λ f a u. free_makes_not f c (a.frees u)) back behind)) in
     let unnamed : AllByRecursion (λ f. has (named f) o.base ≡ false) (front ++ unfreed back o.base) =
     all_join (λ f. has (named f) o.base ≡ false) front (unfreed back o.base) before
-      (All_filter (λ f. has (named f) o.base ≡ false) (λ f. not (frees_base f o.base)) back
-        (All_weaker (Aside o.base) (λ f. not (frees_base f o.base) ≡ true → has (named f) o.base ≡ false) (λ f a u. a.unnamed (not_is (frees_base f o.base) u)) back behind)) in
+    (All_filter (λ f. has (named f) o.base ≡ false) (λ f. not (frees_base f o.base)) back
+    (All_weaker (Aside o.base) (λ f. not (frees_base f o.base) ≡ true → has (named f) o.base ≡ false) (λ f a u. a.unnamed (not_is (frees_base f o.base) u)) back behind)) in
     subst (Follows (front ++ op ∷ back)) (some_same (op.makes && (list_all (λ f. not (has (named f) o.base)) front && only_freed back o.base)) (front ++ unfreed back o.base) next e)
     (record {
       formed = formed_filtered (λ f. not (frees_base f o.base)) front back (formed_without front back op h);
       slots = slots_without front back op (maker_bare (kind op.code) op (operands_of op (well_at front back op h)) makes).no_slot
-        ∙ slots_after front back (unfreed back o.base) (slots_filtered o.base back (All_weaker (Aside o.base) (λ f. frees_base f o.base ≡ true → f.slot ≡ None) (λ f a u. (a.frees u).no_slot) back behind));
+          ∙ slots_after front back (unfreed back o.base) (slots_filtered o.base back (All_weaker (Aside o.base) (λ f. frees_base f o.base ≡ true → f.slot ≡ None) (λ f a u. (a.frees u).no_slot) back behind));
       fits = λ m f. test_all (fits_with m (creates (front ++ unfreed back o.base))) (front ++ unfreed back o.base)
-        (all_two (λ g. has (named g) o.base ≡ false) (λ g. fits_with m (creates (front ++ op ∷ back)) g ≡ true) (λ g. fits_with m (creates (front ++ unfreed back o.base)) g ≡ true)
+          (all_two (λ g. has (named g) o.base ≡ false) (λ g. fits_with m (creates (front ++ op ∷ back)) g ≡ true) (λ g. fits_with m (creates (front ++ unfreed back o.base)) g ≡ true)
           (λ g n k. fits_apart m o.base (creates (front ++ op ∷ back)) (creates (front ++ unfreed back o.base)) g same n k) (front ++ unfreed back o.base) unnamed
           (all_filtered (λ g. fits_with m (creates (front ++ op ∷ back)) g ≡ true) (λ g. not (frees_base g o.base)) front back
-            (all_without (λ g. fits_with m (creates (front ++ op ∷ back)) g ≡ true) front back op (all_of (fits_with m (creates (front ++ op ∷ back))) (front ++ op ∷ back) f))));
+          (all_without (λ g. fits_with m (creates (front ++ op ∷ back)) g ≡ true) front back op (all_of (fits_with m (creates (front ++ op ∷ back))) (front ++ op ∷ back) f))));
       falls = unused_falls o.base front back op only
-        (All_weaker (λ f. has (named f) o.base ≡ false) (λ f. AllByRecursion (λ (v : Strided). (v.base == o.base) ≡ false) (inputs f)) (λ f k. (unnamed_test o.base f k).inputs_not) front before)
-        (All_weaker (Aside o.base) (λ f. (frees_base f o.base ≡ true → (c : ℕ) → makes_base f c ≡ false) × (frees_base f o.base ≡ false → AllByRecursion (λ (v : Strided). (v.base == o.base) ≡ false) (inputs f)))
+          (All_weaker (λ f. has (named f) o.base ≡ false) (λ f. AllByRecursion (λ (v : Strided). (v.base == o.base) ≡ false) (inputs f)) (λ f k. (unnamed_test o.base f k).inputs_not) front before)
+          (All_weaker (Aside o.base) (λ f. (frees_base f o.base ≡ true → (c : ℕ) → makes_base f c ≡ false) × (frees_base f o.base ≡ false → AllByRecursion (λ (v : Strided). (v.base == o.base) ≡ false) (inputs f)))
           (λ f a. ((λ u c. free_makes_not f c (a.frees u)), (λ u. (unnamed_test o.base f (a.unnamed u)).inputs_not))) back behind);
     })

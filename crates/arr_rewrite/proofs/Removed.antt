@@ -1,5 +1,5 @@
 -- Rules that remove operations keep the memory.
-use Rattle.std.proofs.Common.{◌≡◌, ◌≢◌, ℕ, ◌+◌, suc, zero, ℤ, pos, List, [], ◌∷◌, ◌++◌, true, false, cond, not, ◌||◌, ◌&&◌, refl, ap, ap₂, sym, subst, ◌∙◌, Option, Some, None, map, get_or, set, replicate}
+use Rattle.std.proofs.Common.{◌≡◌, ℕ, suc, zero, ℤ, pos, List, [], ◌∷◌, ◌++◌, true, false, cond, not, ◌||◌, refl, ap, ap₂, sym, subst, ◌∙◌, Option, Some, None, map, get_or, set, replicate}
 use Rattle.std.proofs.lemmas.Bool.{false≢true, eqb-true}
 use Rattle.std.specs.Prelude.{◌==◌}
 use Rattle.std.specs.List.{AllByRecursion, list_any}
@@ -51,13 +51,13 @@ copy_to_itself m op o v code out first second slot frees makes base same fits =
     ∙ ap₂ (λ b es. zip_with (value Identity op.to) (read (m.bases b) es) (replicate n (pos 0))) (sym base) (sym same) in
     let one : (b : ℕ) → changed (change op xs b) (m.bases b) ≡ m.bases b =
     λ b. ap (λ f. changed (cond (has (option_to_list f) b) Drops (output_change op.out op.makes op.to xs b)) (m.bases b)) frees
-      ∙ ap₂ (λ u k. changed (output_change u k op.to xs b) (m.bases b)) out makes
-      ∙ elim (o.base == b) as (λ k. (o.base == b) ≡ k → changed (cond k (Writes (elements o) xs) Keeps) (m.bases b) ≡ m.bases b) [
-        | true ↦ λ e.
+    ∙ ap₂ (λ u k. changed (output_change u k op.to xs b) (m.bases b)) out makes
+    ∙ elim (o.base == b) as (λ k. (o.base == b) ≡ k → changed (cond k (Writes (elements o) xs) Keeps) (m.bases b) ≡ m.bases b) [
+      | true ↦ λ e.
           ap (λ ys. changed (Writes (elements o) ys) (m.bases b)) got
           ∙ subst (λ c. changed (Writes (elements o) (zip_with (value Identity op.to) (read (m.bases o.base) (elements o)) (replicate n (pos 0)))) (m.bases c) ≡ m.bases c) (eqb-true o.base b e) (at_cell n (m.bases o.base) fits)
-        | false ↦ λ e. refl
-      ] refl in
+      | false ↦ λ e. refl
+    ] refl in
     let slots : (s : ℕ) → (step m op).slots s ≡ m.slots s = λ s. ap (λ k. slot_after k (record { elem = op.from; lengths = lengths_of op.first; numbers = xs }) s (m.slots s)) slot in
     λ i. record { bases = λ b. one b i; slots = λ s. slots s i }
   where
@@ -84,7 +84,7 @@ step_without b f m u =
     let xs : List ℤ = computed m f in
     let alike : computed m f ≡ computed (without b m) f =
     computed_alike m (without b m) f (All_weaker (λ (v : Strided). (v.base == b) ≡ false) (λ (v : Strided). m.bases v.base ≡ cond (v.base == b) None (m.bases v.base))
-      (λ v e. sym (ap (λ k. cond k None (m.bases v.base)) e)) (inputs f) u.inputs_not) in
+    (λ v e. sym (ap (λ k. cond k None (m.bases v.base)) e)) (inputs f) u.inputs_not) in
     let one : (c : ℕ) → cond (c == b) None (changed (change f xs c) (m.bases c)) ≡ changed (change f xs c) (cond (c == b) None (m.bases c)) =
     λ c. elim (c == b) as (λ k. (c == b) ≡ k → cond k None (changed (change f xs c) (m.bases c)) ≡ changed (change f xs c) (cond k None (m.bases c))) [
       | true ↦ λ e. sym (ap (λ d. changed (change f xs d) None) (eqb-true c b e) ∙ ap (λ d. changed d None) (change_keeps f xs b u.outputs_not u.freed_not))

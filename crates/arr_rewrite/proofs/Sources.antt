@@ -1,5 +1,5 @@
 -- What holds of a view that an operation reads, at its place in a formed list.
-use Rattle.std.proofs.Common.{◌≡◌, ℕ, List, [], ◌∷◌, ◌++◌, Bool, true, false, not, ◌||◌, ◌&&◌, refl, ap, ap₂, sym, subst, ◌∙◌, Option, Some, None, map, append_assoc}
+use Rattle.std.proofs.Common.{◌≡◌, ℕ, List, [], ◌∷◌, ◌++◌, Bool, true, false, not, ◌||◌, ◌&&◌, refl, ap, sym, subst, ◌∙◌, Option, Some, None, map, append_assoc}
 use Rattle.std.proofs.lemmas.Bool.{false≢true, eqb-true, eq-eqb}
 use Rattle.std.specs.Prelude.{◌==◌, nat_lt, is_some}
 use Rattle.std.specs.List.{AllByRecursion, list_all, list_any}
@@ -8,16 +8,16 @@ use Rattle.arr_num.specs.declared.elem.Elem.{Elem}
 use Rattle.arr_view.specs.Strided.{Strided}
 use Rattle.arr_view.specs.Views.{elements, positions, has, is_view, overlap}
 use Rattle.arr_ops.specs.Ops.{inputs, outputs, views, freed, named, makes_base, creates}
-use Rattle.arr_ops.specs.Memory.{Memory, Cell}
+use Rattle.arr_ops.specs.Memory.{Memory}
 use Rattle.arr_ops.specs.Formed.{inside_made, same_types, same_elem, typed, may_precede, well_formed, kind_kept, writes_once, makes_whole, is_whole}
 use Rattle.arr_ops.specs.Fits.{Need, needs, meets_need, fits, op_fits}
 use Rattle.arr_ops.specs.declared.op.Op.{Op}
 use Rattle.arr_ops.proofs.Pairs.{All_weaker}
-use Rattle.arr_ops.proofs.Tests.{both_left, both_right, all_of, or_cases}
-use Rattle.arr_ops.proofs.Writes.{or_left, or_right}
+use Rattle.arr_ops.proofs.Tests.{both_left, both_right, all_of}
+use Rattle.arr_ops.proofs.Writes.{or_right}
 use Rattle.arr_ops.proofs.Spots.{Formed, all_left, all_right, all_mapped, pairs_before, pairs_after, same_elem_is, views_of, well_at}
 use Rattle.arr_rewrite.specs.Writers.{unspoiled, spoils}
-use Rattle.arr_rewrite.proofs.Parts.{Among, all_among, all_join, turned, not_is, equal_turned}
+use Rattle.arr_rewrite.proofs.Parts.{Among, all_among, all_join, not_is, equal_turned}
 use Rattle.arr_rewrite.proofs.KeptHistory.{inputs_named, unfreed_base}
 
 -- the elements of v lie inside the base of o
@@ -49,14 +49,15 @@ implied a b s t h e = same_elem_is s t (ap (λ k. not k || same_elem s t) (sym (
 agrees_at : (f g : Op) (v : Strided) → Among (inputs g) v → inside_made f g ≡ true → same_types f g ≡ true → Agrees f g.from v
 agrees_at f g v at i t = record {
   inside = λ e.
-    let a : list_all (λ (o : Strided). list_all (λ (w : Strided). lies_in w o) (views g)) (outputs f) ≡ true = ap (λ k. not k || list_all (λ (o : Strided). list_all (λ (w : Strided). lies_in w o) (views g)) (outputs f)) (sym e) ∙ i in
-    All_weaker (λ (o : Strided). list_all (λ (w : Strided). lies_in w o) (views g) ≡ true) (λ (o : Strided). lies_in v o ≡ true)
-    (λ o k. at (λ (w : Strided). lies_in w o ≡ true) (all_right (λ (w : Strided). lies_in w o ≡ true) (outputs g) (inputs g) (all_of (λ (w : Strided). lies_in w o) (views g) k))) (outputs f)
-    (all_of (λ (o : Strided). list_all (λ (w : Strided). lies_in w o) (views g)) (outputs f) a);
+      let a : list_all (λ (o : Strided). list_all (λ (w : Strided). lies_in w o) (views g)) (outputs f) ≡ true = ap (λ k. not k || list_all (λ (o : Strided). list_all (λ (w : Strided). lies_in w o) (views g)) (outputs f)) (sym e) ∙ i in
+      All_weaker (λ (o : Strided). list_all (λ (w : Strided). lies_in w o) (views g) ≡ true) (λ (o : Strided). lies_in v o ≡ true)
+      (λ o k. at (λ (w : Strided). lies_in w o ≡ true) (all_right (λ (w : Strided). lies_in w o ≡ true) (outputs g) (inputs g) (all_of (λ (w : Strided). lies_in w o) (views g) k))) (outputs f)
+      (all_of (λ (o : Strided). list_all (λ (w : Strided). lies_in w o) (views g)) (outputs f) a);
   typed_so =
-    All_weaker (λ (p : ℕ × Elem). list_all (λ (q : ℕ × Elem). not (p.0 == q.0) || same_elem p.1 q.1) (typed g) ≡ true) (λ (p : ℕ × Elem). p.0 ≡ v.base → p.1 ≡ g.from)
-    (λ p k. implied p.0 v.base p.1 g.from (one p k)) (typed f)
-    (all_of (λ (p : ℕ × Elem). list_all (λ (q : ℕ × Elem). not (p.0 == q.0) || same_elem p.1 q.1) (typed g)) (typed f) t); }
+      All_weaker (λ (p : ℕ × Elem). list_all (λ (q : ℕ × Elem). not (p.0 == q.0) || same_elem p.1 q.1) (typed g) ≡ true) (λ (p : ℕ × Elem). p.0 ≡ v.base → p.1 ≡ g.from)
+      (λ p k. implied p.0 v.base p.1 g.from (one p k)) (typed f)
+      (all_of (λ (p : ℕ × Elem). list_all (λ (q : ℕ × Elem). not (p.0 == q.0) || same_elem p.1 q.1) (typed g)) (typed f) t);
+}
   where
     one : (p : ℕ × Elem) → list_all (λ (q : ℕ × Elem). not (p.0 == q.0) || same_elem p.1 q.1) (typed g) ≡ true → (not (p.0 == v.base) || same_elem p.1 g.from) ≡ true
     one p k =
@@ -99,19 +100,19 @@ reads_at front back op v h at =
       seen = at (λ w. is_view w ≡ true) (all_right (λ w. is_view w ≡ true) (outputs op) (inputs op) (views_of op well));
       agrees = all_two_of (front ++ op ∷ back) h.inside h.types;
       kept = All_weaker (λ f. may_precede f op ≡ true) (λ f. has (freed f) v.base ≡ false)
-        (λ f k. unfreed_base f.frees (named op) v.base (both_right (not op.makes || list_all (λ (o : Strided). not (has (named f) o.base)) (outputs op)) _ k) name) front
-        (pairs_before (λ f g. may_precede f g ≡ true) front op back h.order);
+          (λ f k. unfreed_base f.frees (named op) v.base (both_right (not op.makes || list_all (λ (o : Strided). not (has (named f) o.base)) (outputs op)) _ k) name) front
+          (pairs_before (λ f g. may_precede f g ≡ true) front op back h.order);
       unmade = All_weaker (λ g. may_precede op g ≡ true) (λ g. makes_base g v.base ≡ false)
-        (λ g k. unmade_by g.out g.makes (named op) v.base (both_left (not g.makes || list_all (λ (o : Strided). not (has (named op) o.base)) (outputs g)) _ k) name) back
-        (pairs_after (λ f g. may_precede f g ≡ true) front op back h.order);
+          (λ g k. unmade_by g.out g.makes (named op) v.base (both_left (not g.makes || list_all (λ (o : Strided). not (has (named op) o.base)) (outputs g)) _ k) name) back
+          (pairs_after (λ f g. may_precede f g ≡ true) front op back h.order);
       own = own_unmade op.out op.makes (inputs op) v at (whole_of op well);
       met = λ m f.
-        let P : Need → Type 0 = λ (n : Need). (creates (front ++ op ∷ back) n.base || meets_need (m.bases n.base) n) ≡ true in
-        let o : op_fits m (front ++ op ∷ back) op ≡ true = (all_right (λ g. op_fits m (front ++ op ∷ back) g ≡ true) front (op ∷ back) (all_of (op_fits m (front ++ op ∷ back)) (front ++ op ∷ back) f)).0 in
-        let n : AllByRecursion P (needs op) = all_of (λ (n : Need). creates (front ++ op ∷ back) n.base || meets_need (m.bases n.base) n) (needs op) (both_left (list_all (λ (n : Need). creates (front ++ op ∷ back) n.base || meets_need (m.bases n.base) n) (needs op)) _ o) in
-        let a = all_left P _ (map (λ b. record { base = b; elem = op.to; places = [] }) (freed op)) n in
-        at (λ (w : Strided). P (need_of op.from w))
-        (all_mapped P (need_of op.from) (inputs op) (all_right P (map (need_of op.to) (outputs op)) (map (need_of op.from) (inputs op)) a));
+          let P : Need → Type 0 = λ (n : Need). (creates (front ++ op ∷ back) n.base || meets_need (m.bases n.base) n) ≡ true in
+          let o : op_fits m (front ++ op ∷ back) op ≡ true = (all_right (λ g. op_fits m (front ++ op ∷ back) g ≡ true) front (op ∷ back) (all_of (op_fits m (front ++ op ∷ back)) (front ++ op ∷ back) f)).0 in
+          let n : AllByRecursion P (needs op) = all_of (λ (n : Need). creates (front ++ op ∷ back) n.base || meets_need (m.bases n.base) n) (needs op) (both_left (list_all (λ (n : Need). creates (front ++ op ∷ back) n.base || meets_need (m.bases n.base) n) (needs op)) _ o) in
+          let a = all_left P _ (map (λ b. record { base = b; elem = op.to; places = [] }) (freed op)) n in
+          at (λ (w : Strided). P (need_of op.from w))
+          (all_mapped P (need_of op.from) (inputs op) (all_right P (map (need_of op.to) (outputs op)) (map (need_of op.from) (inputs op)) a));
     }
   where
     all_two_of : (fs : List Op) → AllByRecursion (λ f. AllByRecursion (λ g. inside_made f g ≡ true) (front ++ op ∷ back)) fs → AllByRecursion (λ f. AllByRecursion (λ g. same_types f g ≡ true) (front ++ op ∷ back)) fs
@@ -137,13 +138,14 @@ carried pre between back w op v h types free clean at =
     record {
       seen = r.seen;
       agrees = subst (λ t. AllByRecursion (λ f. Agrees f t v) ((pre ++ w ∷ between) ++ op ∷ back)) types agrees_w;
-      kept = all_join (λ f. has (freed f) v.base ≡ false) pre (w ∷ between) r.kept
-        (ap (λ k. has (option_to_list k) v.base) free,
+      kept = all_join (λ f. has (freed f) v.base ≡ false) pre (w ∷ between) r.kept (
+        ap (λ k. has (option_to_list k) v.base) free,
         All_weaker (λ f. not (spoils v f) ≡ true) (λ f. has (freed f) v.base ≡ false) (λ f k. or_right (list_any (λ o. overlap o v) (outputs f)) (has (freed f) v.base) (not_is (spoils v f) k)) between
-          (all_of (λ f. not (spoils v f)) between clean));
+            (all_of (λ f. not (spoils v f)) between clean),
+      );
       unmade = rest.1;
       own = rest.0;
       met = λ m f.
-        subst (λ t. (creates ((pre ++ w ∷ between) ++ op ∷ back) v.base || meets_need (m.bases v.base) (need_of t v)) ≡ true) types
-        (subst (λ l. (creates l v.base || meets_need (m.bases v.base) (need_of w.from v)) ≡ true) (sym same) (r.met m (subst (λ l. fits m l ≡ true) same f)));
+          subst (λ t. (creates ((pre ++ w ∷ between) ++ op ∷ back) v.base || meets_need (m.bases v.base) (need_of t v)) ≡ true) types
+          (subst (λ l. (creates l v.base || meets_need (m.bases v.base) (need_of w.from v)) ≡ true) (sym same) (r.met m (subst (λ l. fits m l ≡ true) same f)));
     }

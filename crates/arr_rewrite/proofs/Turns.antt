@@ -1,12 +1,12 @@
 -- What an operation may become, so that the list stays formed and its potential falls.
-use Rattle.std.proofs.Common.{◌≡◌, ℕ, ◌+◌, ◌*◌, ◌<◌, ◌≤◌, ℤ, List, [], ◌∷◌, ◌++◌, Bool, true, false, not, ◌||◌, ◌&&◌, refl, ap, ap₂, sym, subst, ◌∙◌, arith, Option, Some, None, map}
+use Rattle.std.proofs.Common.{◌≡◌, ℕ, ◌+◌, ◌<◌, ℤ, List, [], ◌∷◌, ◌++◌, Bool, true, false, not, ◌&&◌, refl, ap, ap₂, sym, subst, ◌∙◌, arith, Option, Some, None}
 use Rattle.std.proofs.lemmas.Bool.{false≢true}
 use Rattle.std.specs.Prelude.{is_some, is_none}
 use Rattle.std.specs.List.{AllByRecursion, list_all}
 use Rattle.arr_num.specs.Kinds.{kind, Kind, Binary, Unary, Counting, Reduction, Scan, Ending, Printing}
 use Rattle.arr_num.specs.Numbers.{in_type}
 use Rattle.arr_num.specs.declared.elem.Elem.{Elem}
-use Rattle.arr_num.specs.declared.elem.Elem.TheVariants.{U8, I32, I64, U64}
+use Rattle.arr_num.specs.declared.elem.Elem.TheVariants.{U64}
 use Rattle.arr_num.specs.declared.code.Code.{Code}
 use Rattle.arr_num.specs.declared.code.Code.TheVariants.{Add, Multiply, Power, BitwiseAnd, BitwiseOr, BitwiseXor, Identity, Equal, NotEqual, Less, LessEqual, Greater, GreaterEqual}
 use Rattle.arr_view.specs.Strided.{Strided}
@@ -24,11 +24,11 @@ use Rattle.arr_ops.proofs.Tests.{both_left, both_right, all_of, test_all}
 use Rattle.arr_ops.proofs.Spots.{Formed, is_scalar, all_left, all_right}
 use Rattle.arr_rewrite.specs.Rules.{changed_op, constant_op, copy_op, code_op, with_first, with_second, is_identity}
 use Rattle.arr_rewrite.specs.NextRewrite.{regroups}
-use Rattle.arr_rewrite.specs.NormalForm.{op_worth, maker_place, potential, code_worth, operand_worth}
-use Rattle.arr_rewrite.proofs.Parts.{Among, all_among, all_join, turned}
-use Rattle.arr_rewrite.proofs.Sources.{Reads, reads_at, reads_of}
+use Rattle.arr_rewrite.specs.NormalForm.{op_worth, maker_place, potential}
+use Rattle.arr_rewrite.proofs.Parts.{all_join, turned}
+use Rattle.arr_rewrite.proofs.Sources.{Reads}
 use Rattle.arr_rewrite.proofs.Changed.{formed_next, fits_next, slots_same, same_itself}
-use Rattle.arr_rewrite.proofs.Measure.{replaced_falls, operands_fall, constant_falls, copy_falls, total-append}
+use Rattle.arr_rewrite.proofs.Measure.{replaced_falls, total-append}
 
 -- what an application leaves
 pub record Follows (list next : List Op) : Type 0 where
@@ -68,7 +68,7 @@ shaped_all op h =
     let a = both_right (is_some op.out) (list_all (λ (o : Strided). same_shape o.lengths (inputs op)) (outputs op)) (both_right (plain op) _ h) in
     turned (λ (o v : Strided). same_lists v.lengths o.lengths ≡ true) (outputs op) (inputs op)
     (All_weaker (λ (o : Strided). same_shape o.lengths (inputs op) ≡ true) (λ (o : Strided). AllByRecursion (λ (v : Strided). same_lists v.lengths o.lengths ≡ true) (inputs op))
-      (λ o k. all_of (λ (v : Strided). same_lists v.lengths o.lengths) (inputs op) k) (outputs op) (all_of (λ (o : Strided). same_shape o.lengths (inputs op)) (outputs op) a))
+    (λ o k. all_of (λ (v : Strided). same_lists v.lengths o.lengths) (inputs op) k) (outputs op) (all_of (λ (o : Strided). same_shape o.lengths (inputs op)) (outputs op) a))
 
 pub elementwise_again : (op : Op) (code : Code) (from : Elem) (first second : Option Operand) → elementwise op ≡ true → AllByRecursion (Shaped op) (view_of first ++ view_of second)
     → elementwise (changed_op op code from first second) ≡ true
@@ -76,10 +76,10 @@ elementwise_again op code from first second h a =
     let new : List Strided = view_of first ++ view_of second in
     ap₂ (λ p q. p && q) (both_left (plain op) (is_some op.out && list_all (λ (o : Strided). same_shape o.lengths (inputs op)) (outputs op)) h)
     (ap₂ (λ p q. p && q) (both_left (is_some op.out) (list_all (λ (o : Strided). same_shape o.lengths (inputs op)) (outputs op)) (both_right (plain op) _ h))
-      (test_all (λ (o : Strided). same_shape o.lengths (view_of first ++ view_of second)) (outputs op)
-        (All_weaker (λ (o : Strided). AllByRecursion (λ (v : Strided). same_lists v.lengths o.lengths ≡ true) (view_of first ++ view_of second)) (λ (o : Strided). same_shape o.lengths (view_of first ++ view_of second) ≡ true)
-          (λ o k. test_all (λ (v : Strided). same_lists v.lengths o.lengths) (view_of first ++ view_of second) k) (outputs op)
-          (turned (λ (v o : Strided). same_lists v.lengths o.lengths ≡ true) (view_of first ++ view_of second) (outputs op) a))))
+    (test_all (λ (o : Strided). same_shape o.lengths (view_of first ++ view_of second)) (outputs op)
+    (All_weaker (λ (o : Strided). AllByRecursion (λ (v : Strided). same_lists v.lengths o.lengths ≡ true) (view_of first ++ view_of second)) (λ (o : Strided). same_shape o.lengths (view_of first ++ view_of second) ≡ true)
+    (λ o k. test_all (λ (v : Strided). same_lists v.lengths o.lengths) (view_of first ++ view_of second) k) (outputs op)
+    (turned (λ (v o : Strided). same_lists v.lengths o.lengths ≡ true) (view_of first ++ view_of second) (outputs op) a))))
 
 -- ---- the parts of the new operation go together
 

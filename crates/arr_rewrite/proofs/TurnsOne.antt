@@ -1,8 +1,6 @@
 -- The rules that look at one operation leave a formed list of less potential.
-use Rattle.std.proofs.Common.{◌≡◌, ℕ, ◌+◌, ◌*◌, ◌<◌, ◌≤◌, ℤ, pos, List, [], ◌∷◌, ◌++◌, Bool, true, false, cond, not, ◌&&◌, refl, ap, ap₂, sym, subst, ◌∙◌, arith, Option, Some, None}
-use Rattle.std.proofs.lemmas.Bool.{false≢true}
+use Rattle.std.proofs.Common.{◌≡◌, ℕ, ◌+◌, ◌*◌, ℤ, pos, List, ◌∷◌, ◌++◌, true, false, cond, not, ◌&&◌, refl, ap, ap₂, sym, subst, ◌∙◌, arith, Option, Some, None}
 use Rattle.std.specs.Prelude.{◌-ℤ◌}
-use Rattle.std.specs.List.{AllByRecursion, list_all}
 use Rattle.std.specs.Bool.{then_some}
 use Rattle.arr_num.specs.Kinds.{kind}
 use Rattle.arr_num.specs.Numbers.{in_type, value, wrap, same}
@@ -18,10 +16,10 @@ use Rattle.arr_ops.specs.declared.op.Op.{Op}
 use Rattle.arr_ops.specs.declared.op.Operand.{Operand}
 use Rattle.arr_ops.specs.declared.op.Operand.TheVariants.{Array, Number}
 use Rattle.arr_ops.proofs.Typed.{in_type_value}
-use Rattle.arr_ops.proofs.Spots.{Formed, is_scalar, well_at, operands_of, types_of, scalar_elementwise, all_right, same_elem_is}
-use Rattle.arr_rewrite.specs.Rules.{is_scalar as scalar_code, is_identity, constant_op, copy_op, code_op, constant_folded, known_value, neutral_dropped, neutral_beside, neutral_right, neutral_left, fixed_known, power_unrolled, power_to, small_power, subtraction_turned, less_constant}
+use Rattle.arr_ops.proofs.Spots.{Formed, is_scalar, well_at, operands_of, types_of, scalar_elementwise, same_elem_is}
+use Rattle.arr_rewrite.specs.Rules.{is_scalar as scalar_code, is_identity, constant_op, copy_op, code_op, constant_folded, known_value, neutral_dropped, neutral_beside, neutral_right, neutral_left, fixed_known, power_unrolled, small_power, subtraction_turned, less_constant}
 use Rattle.arr_rewrite.specs.NormalForm.{op_worth, maker_place, code_worth, operand_worth}
-use Rattle.arr_rewrite.proofs.Options.{some_true, some_same}
+use Rattle.arr_rewrite.proofs.Options.{some_same}
 use Rattle.arr_rewrite.proofs.Parts.{Among}
 use Rattle.arr_rewrite.proofs.Sources.{Reads, reads_at}
 use Rattle.arr_rewrite.proofs.Replace.{scalar_kind}
@@ -37,9 +35,15 @@ elementwise_at front back op h s = scalar_elementwise (kind op.code) op s (opera
 
 pub to_constant : (front back : List Op) (op : Op) (z : ℤ) → Formed (front ++ op ∷ back) → is_scalar (kind op.code) ≡ true → is_identity op.code ≡ false → in_type op.to z ≡ true → Turn front op back (constant_op op z)
 to_constant front back op z h s other i = record {
-  code = Identity; from = op.to; first = Some (Number z); second = None; is = refl;
-  kept = constant_kept op z (elementwise_at front back op h s) i; reads = tt;
-  falls = constant_falls (maker_place (front ++ op ∷ back)) op z other; }
+  code = Identity;
+  from = op.to;
+  first = Some (Number z);
+  second = None;
+  is = refl;
+  kept = constant_kept op z (elementwise_at front back op h s) i;
+  reads = tt;
+  falls = constant_falls (maker_place (front ++ op ∷ back)) op z other;
+}
 
 -- the only view that is read
 to_copy : (front back : List Op) (op : Op) (x : Strided) → Formed (front ++ op ∷ back) → is_scalar (kind op.code) ≡ true → is_identity op.code ≡ false → Among (inputs op) x
@@ -47,9 +51,15 @@ to_copy : (front back : List Op) (op : Op) (x : Strided) → Formed (front ++ op
 to_copy front back op x h s other at e =
     let el : elementwise op ≡ true = elementwise_at front back op h s in
     record {
-      code = Identity; from = op.from; first = Some (Array x); second = None; is = refl;
-      kept = copy_kept op x el (at (Shaped op) (shaped_all op el)); reads = (reads_at front back op x h at, tt);
-      falls = copy_falls (maker_place (front ++ op ∷ back)) op x other (e (maker_place (front ++ op ∷ back))); }
+      code = Identity;
+      from = op.from;
+      first = Some (Array x);
+      second = None;
+      is = refl;
+      kept = copy_kept op x el (at (Shaped op) (shaped_all op el));
+      reads = (reads_at front back op x h at, tt);
+      falls = copy_falls (maker_place (front ++ op ∷ back)) op x other (e (maker_place (front ++ op ∷ back)));
+    }
 
 weigh_at : (places : ℕ → ℕ) (op : Op) (first second : Option Operand) → op.first ≡ first → op.second ≡ second → weigh places (inputs op) ≡ weigh places (view_of first ++ view_of second)
 weigh_at places op first second p q = ap₂ (λ f s. weigh places (view_of f ++ view_of s)) p q
@@ -89,11 +99,11 @@ neutral : (front back : List Op) (op next : Op) (first second : Option Operand) 
 neutral front back op next (Some (Array x)) (Some (Number c)) p q h t e =
     subst (Turn front op back) (some_same (neutral_right op.code op.to c) (copy_op op x) next e)
     (to_copy front back op x h (ap is_scalar t.binary) t.other (λ P a. at_first P op x p a)
-      (λ places. weigh_at places op (Some (Array x)) (Some (Number c)) p q ∙ one_more (places x.base)))
+    (λ places. weigh_at places op (Some (Array x)) (Some (Number c)) p q ∙ one_more (places x.base)))
 neutral front back op next (Some (Number c)) (Some (Array x)) p q h t e =
     subst (Turn front op back) (some_same (neutral_left op.code op.to c) (copy_op op x) next e)
     (to_copy front back op x h (ap is_scalar t.binary) t.other (λ P a. at_second P op x q a)
-      (λ places. weigh_at places op (Some (Number c)) (Some (Array x)) p q ∙ one_more (places x.base)))
+    (λ places. weigh_at places op (Some (Number c)) (Some (Array x)) p q ∙ one_more (places x.base)))
 neutral front back op next None second p q h t e = absurd (cc)
 neutral front back op next (Some (Array x)) None p q h t e = absurd (cc)
 neutral front back op next (Some (Array x)) (Some (Array y)) p q h t e = absurd (cc)
@@ -131,10 +141,15 @@ squared front back op x c r p q h =
     let old : op_worth places op ≡ 3 + 2 * ((1 + places x.base) + 0) = worth_at places op Power (Some (Array x)) (Some (Number c)) r p q in
     let new : op_worth places (code_op op Multiply x (Array x)) ≡ 2 + 1 * ((1 + places x.base) + ((1 + places x.base) + 0)) = refl in
     record {
-      code = Multiply; from = op.from; first = Some (Array x); second = Some (Array x); is = refl;
+      code = Multiply;
+      from = op.from;
+      first = Some (Array x);
+      second = Some (Array x);
+      is = refl;
       kept = code_kept op Multiply x (Array x) refl (elementwise_again op Multiply op.from (Some (Array x)) (Some (Array x)) el (s, (s, tt))) t refl;
       reads = (w, (w, tt));
-      falls = omega arith; }
+      falls = omega arith;
+    }
 
 power : (front back : List Op) (op next : Op) (code : Code) (first second : Option Operand) → op.code ≡ code → op.first ≡ first → op.second ≡ second → Formed (front ++ op ∷ back) → small_power code op first second ≡ Some next
     → Turn front op back next
@@ -171,10 +186,15 @@ negated front back op x c r p q h =
     let old : op_worth places op ≡ 3 + 1 * ((1 + places x.base) + 0) = worth_at places op Subtract (Some (Array x)) (Some (Number c)) r p q in
     let new : op_worth places (code_op op Add x (Number (wrap op.to (pos 0 -ℤ c)))) ≡ 2 + 1 * ((1 + places x.base) + 0) = refl in
     record {
-      code = Add; from = op.from; first = Some (Array x); second = Some (Number (wrap op.to (pos 0 -ℤ c))); is = refl;
+      code = Add;
+      from = op.from;
+      first = Some (Array x);
+      second = Some (Number (wrap op.to (pos 0 -ℤ c)));
+      is = refl;
       kept = code_kept op Add x (Number (wrap op.to (pos 0 -ℤ c))) refl (elementwise_again op Add op.from (Some (Array x)) (Some (Number (wrap op.to (pos 0 -ℤ c)))) el (s, tt)) t (ap (λ k. k && true) i);
       reads = (reads_at front back op x h (λ P a. at_first P op x p a), tt);
-      falls = omega arith; }
+      falls = omega arith;
+    }
 
 less : (front back : List Op) (op next : Op) (code : Code) (first second : Option Operand) → op.code ≡ code → op.first ≡ first → op.second ≡ second → Formed (front ++ op ∷ back) → less_constant code op first second ≡ Some next
     → Turn front op back next

@@ -1,12 +1,11 @@
 -- The rules that look at the only writer of a base leave a formed list of less potential.
 use Rattle.std.proofs.Common.{◌≡◌, ℕ, suc, ◌+◌, ◌*◌, ◌<◌, ◌≤◌, ℤ, List, [], ◌∷◌, ◌++◌, Bool, true, false, cond, not, ◌||◌, ◌&&◌, refl, ap, ap₂, sym, subst, ◌∙◌, arith, Option, Some, None, length, append_assoc}
-use Rattle.std.proofs.lemmas.Bool.{false≢true, eqb-true, eq-eqb}
-use Rattle.std.specs.Prelude.{◌==◌, is_some}
+use Rattle.std.proofs.lemmas.Bool.{eq-eqb}
+use Rattle.std.specs.Prelude.{◌==◌}
 use Rattle.std.specs.List.{AllByRecursion, list_all, list_any}
 use Rattle.std.specs.Option.{option_to_list, option_or}
 use Rattle.arr_num.specs.Kinds.{kind}
 use Rattle.arr_num.specs.Numbers.{in_type, value, wrap}
-use Rattle.arr_num.specs.declared.code.Code.{Code}
 use Rattle.arr_num.specs.declared.code.Code.TheVariants.{Identity}
 use Rattle.arr_num.proofs.Wrapping.{in_type_wrap}
 use Rattle.arr_view.specs.Strided.{Strided}
@@ -17,20 +16,20 @@ use Rattle.arr_ops.specs.declared.op.Op.{Op}
 use Rattle.arr_ops.specs.declared.op.Operand.{Operand}
 use Rattle.arr_ops.specs.declared.op.Operand.TheVariants.{Array, Number}
 use Rattle.arr_ops.proofs.Pairs.{All_weaker}
-use Rattle.arr_ops.proofs.Tests.{both_left, both_right, all_of, same_from_test}
+use Rattle.arr_ops.proofs.Tests.{both_left, both_right, same_from_test}
 use Rattle.arr_ops.proofs.Typed.{in_type_value}
 use Rattle.arr_ops.proofs.Spots.{Formed, is_scalar, Plain, plain_at, well_at, operands_of, types_of, scalar_elementwise, writes_typed, all_left, all_right, pairs_before, same_elem_is}
 use Rattle.arr_rewrite.specs.Rules.{is_scalar as scalar_code, is_identity, constant_op, code_op, with_first, with_second}
-use Rattle.arr_rewrite.specs.Writers.{Writer, unspoiled}
+use Rattle.arr_rewrite.specs.Writers.{unspoiled}
 use Rattle.arr_rewrite.specs.NextRewrite.{Beside, beside, known_operand, first_number, second_number, constant_carried, copied_operand, first_view, second_view, copy_carried, regroups, joined_beside, constants_joined}
-use Rattle.arr_rewrite.specs.NormalForm.{op_worth, maker_place, code_worth, operand_worth}
-use Rattle.arr_rewrite.proofs.Agree.{Unnamed, unnamed_test}
+use Rattle.arr_rewrite.specs.NormalForm.{maker_place, code_worth, operand_worth}
+use Rattle.arr_rewrite.proofs.Agree.{unnamed_test}
 use Rattle.arr_rewrite.proofs.Replace.{scalar_kind}
 use Rattle.arr_rewrite.proofs.Parts.{Among, all_join, not_is}
 use Rattle.arr_rewrite.proofs.Sources.{Reads, reads_at, reads_of, carried}
 use Rattle.arr_rewrite.proofs.Changed.{same_itself}
-use Rattle.arr_rewrite.proofs.KeptRemoved.{Bare, maker_bare, identity_is}
-use Rattle.arr_rewrite.proofs.KeptHistory.{Found, at_first, at_second}
+use Rattle.arr_rewrite.proofs.KeptRemoved.{maker_bare}
+use Rattle.arr_rewrite.proofs.KeptHistory.{at_first, at_second}
 use Rattle.arr_rewrite.proofs.KeptConstants.{Known, known, written_out}
 use Rattle.arr_rewrite.proofs.KeptCopies.{Copied, copied}
 use Rattle.arr_rewrite.proofs.KeptJoins.{Regroups, regroups_of, Joined, joined_found, beside_input}
@@ -75,7 +74,7 @@ module _ (pre between back : List Op) (w op : Op) (o x : Strided) (formed : Form
   types_w =
       let types : same_types w op ≡ true =
       (all_right (λ g. same_types w g ≡ true) ahead (op ∷ back)
-        (all_right (λ f. AllByRecursion (λ g. same_types f g ≡ true) (ahead ++ op ∷ back)) pre (w ∷ between) (all_left (λ f. AllByRecursion (λ g. same_types f g ≡ true) (ahead ++ op ∷ back)) ahead (op ∷ back) formed.types)).0).0 in
+      (all_right (λ f. AllByRecursion (λ g. same_types f g ≡ true) (ahead ++ op ∷ back)) pre (w ∷ between) (all_left (λ f. AllByRecursion (λ g. same_types f g ≡ true) (ahead ++ op ∷ back)) ahead (op ∷ back) formed.types)).0).0 in
       at_x (λ (u : Strided). (o.base == u.base) ≡ true → w.to ≡ op.from) (writes_typed w op types o out) (eq-eqb o.base x.base base)
 
   free_w : w.frees ≡ None
@@ -114,7 +113,8 @@ drawn : (pre between back : List Op) (w op : Op) (o x v : Strided) → Formed ((
 drawn pre between back w op o x v h makes out base at_x at_v s types same clean = record {
   reads = source_reads pre between back w op o x h makes out base at_x v at_v types clean;
   lengths = lengths pre between back w op o x h makes out base at_x v at_v s same;
-  lower = lower pre between back w op o x h makes out base at_x v at_v; }
+  lower = lower pre between back w op o x h makes out base at_x v at_v;
+}
 
 weigh_lower : (places : ℕ → ℕ) (x v : Strided) → places v.base < places x.base → weigh places (v ∷ []) < 1 + places x.base
 weigh_lower places x v h = omega arith
@@ -144,7 +144,7 @@ known_typed front back op o z k h at =
 pub constant_carried_turns : (front back : List Op) (op next : Op) → Formed (front ++ op ∷ back) → constant_carried front op back ≡ Some next → Turn front op back next
 constant_carried_turns front back op next h e =
     elim (scalar_code op.code) as (λ t. scalar_code op.code ≡ t
-      → cond t (option_or (first_number op (known_operand front (op ∷ back) op.first)) (second_number op (known_operand front (op ∷ back) op.second))) None ≡ Some next → Turn front op back next) [
+    → cond t (option_or (first_number op (known_operand front (op ∷ back) op.first)) (second_number op (known_operand front (op ∷ back) op.second))) None ≡ Some next → Turn front op back next) [
       | false ↦ λ t g. absurd (cc)
       | true ↦ λ t g. by_first (scalar_kind op.code t) (known_operand front (op ∷ back) op.first) (known_operand front (op ∷ back) op.second) refl refl g
     ] refl e
@@ -168,13 +168,18 @@ constant_carried_turns front back op next h e =
         let t : in_type op.from z ≡ true = known_typed front back op op.second z k h (λ P a. at_second P op k.view k.is a) in
         let new : with_second op (Number z) ≡ next = cc in
         record {
-          code = op.code; from = op.from; first = op.first; second = Some (Number z); is = new;
+          code = op.code;
+          from = op.from;
+          first = op.first;
+          second = Some (Number z);
+          is = new;
           kept = second_number_kept op k.view z k.is s (elementwise_at front back op h s) t parts;
           reads = all_join (Reads front op back op.from) (view_of op.first) [] read_first tt;
-          falls = operands_fall (maker_place (front ++ op ∷ back)) op (with_second op (Number z)) refl (second_less (maker_place (front ++ op ∷ back)) op k.view (Number z) k.is (omega arith)); }
+          falls = operands_fall (maker_place (front ++ op ∷ back)) op (with_second op (Number z)) refl (second_less (maker_place (front ++ op ∷ back)) op k.view (Number z) k.is (omega arith));
+        }
 
     by_first : is_scalar (kind op.code) ≡ true → (a b : Option ℤ) → known_operand front (op ∷ back) op.first ≡ a → known_operand front (op ∷ back) op.second ≡ b
-      → option_or (first_number op a) (second_number op b) ≡ Some next → Turn front op back next
+        → option_or (first_number op a) (second_number op b) ≡ Some next → Turn front op back next
     by_first s None b p q g = by_second s b q g
     by_first s (Some z) b p q g =
         let k : Known front op.first z = known front (op ∷ back) op.first z p in
@@ -187,15 +192,27 @@ constant_carried_turns front back op next h e =
               let a : weigh (maker_place (front ++ op ∷ back)) (inputs op) ≤ operand_worth op.code * weigh (maker_place (front ++ op ∷ back)) (inputs op) = worth_of op.code _ in
               let c : 1 ≤ code_worth op.code = some_worth op.code in
               record {
-                code = Identity; from = op.to; first = Some (Number (wrap op.to z)); second = None; is = new;
-                kept = constant_kept op (wrap op.to z) (elementwise_at front back op h s) (in_type_wrap op.to z); reads = tt; falls = omega arith; }
+                code = Identity;
+                from = op.to;
+                first = Some (Number (wrap op.to z));
+                second = None;
+                is = new;
+                kept = constant_kept op (wrap op.to z) (elementwise_at front back op h s) (in_type_wrap op.to z);
+                reads = tt;
+                falls = omega arith;
+              }
           | false ↦ λ i f.
               let new : with_first op (Number z) ≡ next = cc in
               record {
-                code = op.code; from = op.from; first = Some (Number z); second = op.second; is = new;
+                code = op.code;
+                from = op.from;
+                first = Some (Number z);
+                second = op.second;
+                is = new;
                 kept = first_number_kept op z s i (elementwise_at front back op h s) t parts;
                 reads = read_second;
-                falls = operands_fall (maker_place (front ++ op ∷ back)) op (with_first op (Number z)) refl less; }
+                falls = operands_fall (maker_place (front ++ op ∷ back)) op (with_first op (Number z)) refl less;
+              }
         ] refl g
 
 -- ---- a copied view is carried
@@ -224,11 +241,16 @@ copy_carried_turns front back op next h e = by_first (copied_operand front (op �
         let d : Drawn front op back k.view v = copied_drawn front back op op.second v k h (λ P a. at_second P op k.view k.is a) in
         let new : with_second op (Array v) ≡ next = cc in
         record {
-          code = op.code; from = op.from; first = op.first; second = Some (Array v); is = new;
+          code = op.code;
+          from = op.from;
+          first = op.first;
+          second = Some (Array v);
+          is = new;
           kept = second_view_kept op k.view v k.is d.lengths parts;
           reads = all_join (Reads front op back op.from) (view_of op.first) (v ∷ []) (all_left (Reads front op back op.from) (view_of op.first) (view_of op.second) (reads_of front back op h)) (d.reads, tt);
           falls = operands_fall (maker_place (front ++ op ∷ back)) op (with_second op (Array v)) refl
-            (second_less (maker_place (front ++ op ∷ back)) op k.view (Array v) k.is (weigh_lower (maker_place (front ++ op ∷ back)) k.view v d.lower)); }
+              (second_less (maker_place (front ++ op ∷ back)) op k.view (Array v) k.is (weigh_lower (maker_place (front ++ op ∷ back)) k.view v d.lower));
+        }
 
     by_first : (a b : Option Strided) → copied_operand front (op ∷ back) op.first ≡ a → copied_operand front (op ∷ back) op.second ≡ b → option_or (first_view op a) (second_view op b) ≡ Some next → Turn front op back next
     by_first None b p q g = by_second b q g
@@ -237,11 +259,16 @@ copy_carried_turns front back op next h e = by_first (copied_operand front (op �
         let d : Drawn front op back k.view v = copied_drawn front back op op.first v k h (λ P a. at_first P op k.view k.is a) in
         let new : with_first op (Array v) ≡ next = cc in
         record {
-          code = op.code; from = op.from; first = Some (Array v); second = op.second; is = new;
+          code = op.code;
+          from = op.from;
+          first = Some (Array v);
+          second = op.second;
+          is = new;
           kept = first_view_kept op k.view v k.is d.lengths parts;
           reads = (d.reads, all_right (Reads front op back op.from) (view_of op.first) (view_of op.second) (reads_of front back op h));
           falls = operands_fall (maker_place (front ++ op ∷ back)) op (with_first op (Array v)) refl
-            (first_less (maker_place (front ++ op ∷ back)) op k.view (Array v) k.is (weigh_lower (maker_place (front ++ op ∷ back)) k.view v d.lower)); }
+              (first_less (maker_place (front ++ op ∷ back)) op k.view (Array v) k.is (weigh_lower (maker_place (front ++ op ∷ back)) k.view v d.lower));
+        }
 
 -- ---- two constants are joined
 
@@ -277,8 +304,8 @@ joined_turn front back op next x h re first k =
     let types : w.to ≡ w.from = r.types w (ap (λ c. types_kept c w) (sym k.code) ∙ types_of w well) in
     let d : Drawn front op back x.view k.source.view =
     subst (λ fs. Drawn fs op back x.view k.source.view) (sym k.found.split)
-      (drawn pre between back w op out.0 x.view k.source.view moved k.found.makes out.1 out.2 at (λ P a. beside_input P w.first w.second k.source k.reads a)
-        (ap (λ c. is_scalar (kind c)) k.code ∙ r.scalar) (sym types) same k.clean) in
+    (drawn pre between back w op out.0 x.view k.source.view moved k.found.makes out.1 out.2 at (λ P a. beside_input P w.first w.second k.source k.reads a)
+    (ap (λ c. is_scalar (kind c)) k.code ∙ r.scalar) (sym types) same k.clean) in
     let el : elementwise op ≡ true = elementwise_at front back op h r.scalar in
     let shaped : Shaped op k.source.view = subst (λ (n : List ℕ). AllByRecursion (λ (o : Strided). same_lists n o.lengths ≡ true) (outputs op)) d.lengths (at (Shaped op) (shaped_all op el)) in
     let to : op.to ≡ op.from = r.types op (types_of op (well_at front back op h)) in
@@ -288,12 +315,17 @@ joined_turn front back op next x h re first k =
     let lighter : weigh (maker_place (front ++ op ∷ back)) (k.source.view ∷ []) < 1 + maker_place (front ++ op ∷ back) x.view.base = weigh_lower (maker_place (front ++ op ∷ back)) x.view k.source.view d.lower in
     let old : weigh (maker_place (front ++ op ∷ back)) (inputs op) ≡ (1 + maker_place (front ++ op ∷ back) x.view.base) + 0 = beside_weighs (maker_place (front ++ op ∷ back)) op.first op.second x first in
     record {
-      code = op.code; from = op.from; first = Some (Array k.source.view); second = Some (Number (value op.code op.to k.source.number x.number)); is = k.becomes;
+      code = op.code;
+      from = op.from;
+      first = Some (Array k.source.view);
+      second = Some (Number (value op.code op.to k.source.number x.number));
+      is = k.becomes;
       kept = code_kept op op.code k.source.view (Number (value op.code op.to k.source.number x.number)) re
-        (elementwise_again op op.code op.from (Some (Array k.source.view)) (Some (Number (value op.code op.to k.source.number x.number))) el (shaped, tt))
-        (subst (λ t. same_elem op.to t ≡ true) to (same_itself op.to)) (ap (λ b. b && true) inside);
+          (elementwise_again op op.code op.from (Some (Array k.source.view)) (Some (Number (value op.code op.to k.source.number x.number))) el (shaped, tt))
+          (subst (λ t. same_elem op.to t ≡ true) to (same_itself op.to)) (ap (λ b. b && true) inside);
       reads = (d.reads, tt);
-      falls = operands_fall (maker_place (front ++ op ∷ back)) op (code_op op op.code k.source.view (Number (value op.code op.to k.source.number x.number))) refl (omega arith); }
+      falls = operands_fall (maker_place (front ++ op ∷ back)) op (code_op op op.code k.source.view (Number (value op.code op.to k.source.number x.number))) refl (omega arith);
+    }
 
 pub constants_joined_turns : (front back : List Op) (op next : Op) → Formed (front ++ op ∷ back) → constants_joined front op back ≡ Some next → Turn front op back next
 constants_joined_turns front back op next h e =
