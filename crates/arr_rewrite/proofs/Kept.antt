@@ -1,4 +1,4 @@
--- The rules keep the memory that a formed list leaves.
+-- A constant that changes nothing keeps the memory that a formed list leaves.
 use Rattle.std.proofs.Common.{◌≡◌, List, ◌∷◌, ◌++◌, true, refl, ap, sym, subst, ◌∙◌, Option, Some, None}
 use Rattle.std.specs.Prelude.{is_none}
 use Rattle.std.specs.List.{AllByRecursion}

@@ -24,9 +24,9 @@ use Rattle.arr_ops.proofs.Tests.{both_left, both_right, all_of}
 use Rattle.arr_rewrite.proofs.Replace.{walk_length, scalar_kind}
 use Rattle.arr_rewrite.proofs.Kept.{same_step}
 use Rattle.arr_rewrite.proofs.KeptRemoved.{identity_is}
-use Rattle.arr_rewrite.proofs.KeptHistory.{Found, found_before, inputs_named, at_second, filled_reads}
-use Rattle.arr_rewrite.proofs.KeptHistory.{at_first}
+use Rattle.arr_rewrite.proofs.KeptHistory.{Found, found_before, inputs_named, filled_reads}
 use Rattle.arr_rewrite.proofs.History.{first_constant, second_constant, identity_constant}
+use Rattle.arr_rewrite.proofs.Parts.{at_second, at_first}
 
 -- what the test of an operand finds
 pub record Known (front : List Op) (o : Option Operand) (z : ℤ) : Type 0 where

@@ -25,7 +25,7 @@ use Rattle.arr_rewrite.proofs.Scalars.{value_identity}
 use Rattle.arr_rewrite.proofs.Replace.{to_changed, computed_scalar, walk_length}
 use Rattle.arr_rewrite.proofs.History.{zip_constant, length_read}
 use Rattle.arr_rewrite.proofs.Kept.{same_step, KeepsMemory}
-use Rattle.arr_rewrite.proofs.KeptHistory.{at_first, at_second}
+use Rattle.arr_rewrite.proofs.Parts.{at_first, at_second}
 
 zip_right : (f : ℤ → ℤ → ℤ) (t : Elem) (c z : ℤ) → ((x : ℤ) → in_type t x ≡ true → f x c ≡ z) → (xs : List ℤ) (n : ℕ) → AllIn t xs → length xs ≡ n → zip_with f xs (replicate n c) ≡ replicate n z
 zip_right f t c z h [] zero a e = refl

@@ -1,5 +1,5 @@
 -- Two constants joined keep the memory that a formed list leaves.
-use Rattle.std.proofs.Common.{◌≡◌, List, ◌∷◌, ◌++◌, Bool, true, false, cond, ◌||◌, ◌&&◌, refl, ap, sym, subst, ◌∙◌, Option, Some, None}
+use Rattle.std.proofs.Common.{◌≡◌, List, ◌∷◌, ◌++◌, true, false, cond, ◌&&◌, refl, ap, sym, subst, ◌∙◌, Option, Some, None}
 use Rattle.std.proofs.lemmas.Bool.{false≢true, eq-eqb}
 use Rattle.std.specs.Prelude.{◌==◌, is_some}
 use Rattle.std.specs.List.{AllByRecursion, list_any}
@@ -31,8 +31,9 @@ use Rattle.arr_rewrite.proofs.KeptHistory.{Found, found_before, inputs_named}
 use Rattle.arr_rewrite.proofs.KeptConstants.{written_out}
 use Rattle.arr_rewrite.proofs.KeptCopies.{Traced, traced}
 use Rattle.arr_rewrite.proofs.History.{constants_shown}
+use Rattle.arr_rewrite.proofs.Parts.{one}
 
--- what the codes of the rule are
+-- what a code is whose constants are joined
 pub record Regroups (code : Code) (t : Elem) : Type 0 where
   pub joins : Joins code t
   pub scalar : is_scalar (kind code) ≡ true
@@ -137,10 +138,6 @@ joined_step m front back op next x formed re first k =
     subst (λ (n : Memory). step n op ≡ step n (code_op op op.code k.source.view (Number (value op.code op.to k.source.number x.number)))) (sym there)
     (constants_shown (eager m pre) w op out.0 x k.source between t.wrote k.code (to ∙ sym (r.types op (types_of op well))) r.scalar r.joins walk.0 first k.reads t.base t.whole t.size walk.1 t.spared_w t.spared)
     ∙ ap (step (eager m front)) k.becomes
-  where
-    one : (b : Bool) → (b || false) ≡ true → b ≡ true
-    one true h = refl
-    one false h = h
 
 pub constants_joined_keeps : (m : Memory) (front back : List Op) (op next : Op) → Formed (front ++ op ∷ back)
     → constants_joined front op back ≡ Some next → eager m (front ++ op ∷ back) ≡ eager m (front ++ next ∷ back)

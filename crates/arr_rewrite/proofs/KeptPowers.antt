@@ -1,4 +1,4 @@
--- Rule 4 keeps the memory.
+-- A small power keeps the memory that a formed list leaves.
 use Rattle.std.proofs.Common.{◌≡◌, ℕ, ◌*◌, ◌^◌, suc, zero, ℤ, pos, negsuc, List, [], ◌∷◌, ◌++◌, true, false, cond, refl, ap, ap₂, sym, ◌∙◌, arith, Option, Some, None, replicate, length}
 use Rattle.std.proofs.lemmas.Int.{ints}
 use Rattle.std.proofs.Math.Nat.{pow-zero, pow-suc}
@@ -25,8 +25,8 @@ use Rattle.arr_num.proofs.Wrapping.{same_is}
 use Rattle.arr_rewrite.proofs.Options.{some_true, some_same}
 use Rattle.arr_rewrite.proofs.Replace.{to_changed, computed_scalar, walk_length}
 use Rattle.arr_rewrite.proofs.Kept.{same_step, KeepsMemory}
-use Rattle.arr_rewrite.proofs.KeptHistory.{at_first}
 use Rattle.arr_rewrite.proofs.History.{length_read}
+use Rattle.arr_rewrite.proofs.Parts.{at_first}
 
 power_none : (x : ℤ) → int_pow x 0 ≡ pos 1
 power_none (pos n) = ap pos (pow-zero n)

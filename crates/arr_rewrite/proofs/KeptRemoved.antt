@@ -25,16 +25,13 @@ use Rattle.arr_rewrite.proofs.Agree.{eager-append, Unnamed, unnamed_test, Leaves
 use Rattle.arr_ops.proofs.Typed.{CellFits}
 use Rattle.arr_rewrite.proofs.Options.{some_true, some_same}
 use Rattle.arr_rewrite.proofs.Removed.{copy_to_itself, OnlyTo, Passes, unused_removed}
+use Rattle.arr_rewrite.proofs.Parts.{at_first}
 
 pub identity_is : (code : Code) → is_identity code ≡ true → code ≡ Identity
 identity_is Identity h = refl
 identity_is _ h = absurd (false≢true h)
 
--- ---- 9
-
-not_true : (b : Bool) → (b ≡ true → ⊥) → b ≡ false
-not_true true h = absurd (h refl)
-not_true false h = refl
+-- ---- a copy of a view to itself
 
 -- the output and the input of a copy to itself
 pub record ToItself (op : Op) : Type 0 where
@@ -75,18 +72,26 @@ input_apart op (Some u) o v true p q h e =
     let d : v.base ≡ u.base = sym (eqb-true o.base v.base e) ∙ ap (λ (w : Strided). w.base) (sym same) in
     absurd (false≢true (sym (ap not (eq-eqb v.base u.base d)) ∙ c))
 
+pub itself_unary : (op : Op) → well_formed op ≡ true → copies_itself op ≡ true → operands_kept Unary op ≡ true
+itself_unary op well e = ap (λ c. operands_kept (kind c) op) (sym (identity_is op.code (both_left (is_identity op.code) (some_pair identical (outputs op) (inputs op)) e))) ∙ operands_of op well
+
+pub itself_of : (op : Op) → well_formed op ≡ true → copies_itself op ≡ true → ToItself op
+itself_of op well e =
+    find_itself op op.out op.first op.second refl refl refl
+    (both_right (is_some op.first) (is_none op.second) (both_right (elementwise op) (is_some op.first && is_none op.second) (itself_unary op well e)))
+    (both_right (is_identity op.code) (some_pair identical (outputs op) (inputs op)) e)
+
 pub copies_kept : (m : Memory) (front back : List Op) (op : Op) → Formed (front ++ op ∷ back) → fits m (front ++ op ∷ back) ≡ true
     → copies_itself op ≡ true → eager m (front ++ op ∷ back) ≡ eager m (front ++ back)
 copies_kept m front back op formed fit e =
     let n : Memory = eager m front in
     let well : well_formed op ≡ true = well_at front back op formed in
     let code : op.code ≡ Identity = identity_is op.code (both_left (is_identity op.code) _ e) in
-    let kept : operands_kept Unary op ≡ true = ap (λ c. operands_kept (kind c) op) (sym code) ∙ operands_of op well in
-    let el : elementwise op ≡ true = both_left (elementwise op) _ kept in
-    let t : ToItself op = find_itself op op.out op.first op.second refl refl refl (both_right (is_some op.first) _ (both_right (elementwise op) _ kept)) (both_right (is_identity op.code) _ e) in
+    let el : elementwise op ≡ true = both_left (elementwise op) (is_some op.first && is_none op.second) (itself_unary op well e) in
+    let t : ToItself op = itself_of op well e in
     let p : Plain op t.o = plain_at op t.o t.out well el in
-    let base : (t.o.base == t.v.base) ≡ true = both_left (t.o.base == t.v.base) _ t.same in
-    let places : elements t.o ≡ elements t.v = same_from_test (elements t.o) (elements t.v) (both_right (same_lists t.o.lengths t.v.lengths) _ (both_right (t.o.base == t.v.base) _ t.same)) in
+    let base : (t.o.base == t.v.base) ≡ true = both_left (t.o.base == t.v.base) (same_lists t.o.lengths t.v.lengths && same_lists (elements t.o) (elements t.v)) t.same in
+    let places : elements t.o ≡ elements t.v = same_from_test (elements t.o) (elements t.v) (both_right (same_lists t.o.lengths t.v.lengths) (same_lists (elements t.o) (elements t.v)) (both_right (t.o.base == t.v.base) (same_lists t.o.lengths t.v.lengths && same_lists (elements t.o) (elements t.v)) t.same)) in
     let makes : op.makes ≡ false = input_apart op op.out t.o t.v op.makes t.out t.first
     (both_right (list_all (λ o. not (repeated (elements o))) (outputs op)) _ (both_right (list_all is_view (views op)) _ (both_right (kind_kept op) _ well))) base in
     let holds : AllByRecursion (λ (v : Strided). CellFits op.from (n.bases v.base)) (inputs op) = held m front back op formed fit in
@@ -99,11 +104,8 @@ copies_kept m front back op formed fit e =
     eager-append m front (op ∷ back)
     ∙ ap (λ k. eager k back) (copy_to_itself n op t.o t.v code t.out t.first t.second p.no_slot p.no_free makes b places cell)
     ∙ sym (eager-append m front back)
-  where
-    at_first : (P : Strided → Type 0) (op : Op) (v : Strided) → op.first ≡ Some (Array v) → AllByRecursion P (inputs op) → P v
-    at_first P op v e h = (subst (λ f. AllByRecursion P (view_of f ++ view_of op.second)) e h).0
 
--- ---- 10
+-- ---- a base that nothing uses
 
 pub record Bare (op : Op) : Type 0 where
   pub no_slot : op.slot ≡ None

@@ -1,4 +1,4 @@
--- The next application keeps the memory, where the rules on one operation do.
+-- The next application keeps the memory that a formed list leaves.
 use Rattle.std.proofs.Common.{◌≡◌, List, [], ◌∷◌, ◌++◌, true, refl, ap, sym, subst, ◌∙◌, Option, Some, None, append_assoc}
 use Rattle.arr_view.specs.Strided.{Strided}
 use Rattle.arr_ops.specs.Memory.{Memory, eager}

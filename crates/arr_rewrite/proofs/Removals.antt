@@ -1,27 +1,27 @@
 -- The rules that remove operations leave a formed list of less potential.
 use Rattle.std.proofs.Common.{◌≡◌, ℕ, List, [], ◌∷◌, ◌++◌, Bool, true, false, cond, not, ◌||◌, ◌&&◌, refl, ap, ap₂, sym, subst, ◌∙◌, Option, Some, None, map}
-use Rattle.std.specs.Prelude.{◌==◌, nat_eq, is_some}
+use Rattle.std.specs.Prelude.{◌==◌, nat_eq, is_some, is_none}
 use Rattle.std.specs.List.{AllByRecursion, list_all, list_any, filter}
 use Rattle.std.specs.Option.{option_to_list}
-use Rattle.arr_num.specs.Kinds.{kind, Unary}
+use Rattle.arr_num.specs.Kinds.{kind}
 use Rattle.arr_view.specs.Strided.{Strided}
-use Rattle.arr_view.specs.Views.{has}
+use Rattle.arr_view.specs.Views.{elements, has, same_lists}
 use Rattle.arr_ops.specs.Ops.{inputs, outputs, freed, named, makes_base, creates}
 use Rattle.arr_ops.specs.Memory.{Memory}
-use Rattle.arr_ops.specs.Formed.{well_formed, operands_kept, inside_made, same_types, may_precede, elementwise, slot_numbers}
+use Rattle.arr_ops.specs.Formed.{well_formed, inside_made, same_types, may_precede, elementwise, slot_numbers}
 use Rattle.arr_ops.specs.Fits.{Need, needs, meets_need}
 use Rattle.arr_ops.specs.declared.op.Op.{Op}
 use Rattle.arr_ops.proofs.Pairs.{Pairs, All_weaker, All_filter}
 use Rattle.arr_ops.proofs.Tests.{both_left, both_right, all_of, test_all}
 use Rattle.arr_ops.proofs.Spots.{Formed, well_at, operands_of, all_right, all_two}
-use Rattle.arr_rewrite.specs.Rules.{copies_itself, is_identity}
+use Rattle.arr_rewrite.specs.Rules.{copies_itself}
 use Rattle.arr_rewrite.specs.NextRewrite.{frees_base, unfreed, only_freed, unused}
 use Rattle.arr_rewrite.proofs.Options.{some_true, some_same}
 use Rattle.arr_rewrite.proofs.Parts.{all_join, map_all, equal_turned, not_is}
 use Rattle.arr_rewrite.proofs.Sources.{need_of, whole_of}
 use Rattle.arr_rewrite.proofs.Changed.{fits_with}
 use Rattle.arr_rewrite.proofs.Agree.{Unnamed, unnamed_test}
-use Rattle.arr_rewrite.proofs.KeptRemoved.{identity_is, ToItself, find_itself, input_apart, elementwise_bare, maker_bare, free_bare, Free}
+use Rattle.arr_rewrite.proofs.KeptRemoved.{ToItself, itself_of, itself_unary, input_apart, elementwise_bare, maker_bare, free_bare, Free}
 use Rattle.arr_rewrite.proofs.Measure.{removed_falls, unused_falls}
 use Rattle.arr_rewrite.proofs.Turns.{Follows}
 use Rattle.arr_rewrite.proofs.TurnsTwo.{makes_not}
@@ -122,14 +122,15 @@ creates_filtered c b (f ∷ fs) h =
 pub copies_follow : (front back : List Op) (op : Op) → Formed (front ++ op ∷ back) → copies_itself op ≡ true → Follows (front ++ op ∷ back) (front ++ back)
 copies_follow front back op h e =
     let well : well_formed op ≡ true = well_at front back op h in
-    let kept : operands_kept Unary op ≡ true = ap (λ c. operands_kept (kind c) op) (sym (identity_is op.code (both_left (is_identity op.code) _ e))) ∙ operands_of op well in
-    let t : ToItself op = find_itself op op.out op.first op.second refl refl refl (both_right (is_some op.first) _ (both_right (elementwise op) _ kept)) (both_right (is_identity op.code) _ e) in
-    let makes : op.makes ≡ false = input_apart op op.out t.o t.v op.makes t.out t.first (whole_of op well) (both_left (t.o.base == t.v.base) _ t.same) in
+    let t : ToItself op = itself_of op well e in
+    let makes : op.makes ≡ false =
+    input_apart op op.out t.o t.v op.makes t.out t.first (whole_of op well)
+    (both_left (t.o.base == t.v.base) (same_lists t.o.lengths t.v.lengths && same_lists (elements t.o) (elements t.v)) t.same) in
     let none : (b : ℕ) → makes_base op b ≡ false = λ b. ap (λ k. k && list_any (λ (o : Strided). o.base == b) (outputs op)) makes in
     let same : creates (front ++ op ∷ back) ≡ creates (front ++ back) = λ i. λ b. creates_without b op (none b) front back i in
     record {
       formed = formed_without front back op h;
-      slots = slots_without front back op (elementwise_bare op (both_left (elementwise op) _ kept)).no_slot;
+      slots = slots_without front back op (elementwise_bare op (both_left (elementwise op) (is_some op.first && is_none op.second) (itself_unary op well e))).no_slot;
       fits = λ m f. subst (λ (c : ℕ → Bool). list_all (fits_with m c) (front ++ back) ≡ true) same
           (test_all (fits_with m (creates (front ++ op ∷ back))) (front ++ back)
           (all_without (λ g. fits_with m (creates (front ++ op ∷ back)) g ≡ true) front back op (all_of (fits_with m (creates (front ++ op ∷ back))) (front ++ op ∷ back) f)));

@@ -1,4 +1,4 @@
--- Rules that look at one operation keep what it does.
+-- Operations with the same results make the same step.
 use Rattle.std.proofs.Common.{◌≡◌, ℕ, suc, zero, ℤ, pos, List, [], ◌∷◌, ◌++◌, true, ◌||◌, refl, ap, ap₂, sym, ◌∙◌, Option, Some, None, replicate}
 use Rattle.std.proofs.lemmas.Bool.{false≢true}
 use Rattle.std.specs.List.{AllByRecursion}
@@ -66,7 +66,7 @@ computed_scalar m op h =
     ap (λ xs. results op.code op.to (lengths_of op.first) (or_zero op.axis) xs (operand m (walk_length op) op.second)) (first_operand op.code m (walk_length op) op.first h)
     ∙ results_zip op.code op.to (lengths_of op.first) (or_zero op.axis) _ _ h
 
--- ---- 2
+-- ---- a constant that changes nothing
 
 zip_right : (t : Elem) (f : ℤ → ℤ → ℤ) (c : ℤ) → ((x : ℤ) → in_type t x ≡ true → f x c ≡ x) → (xs : List ℤ) (n : ℕ) → AllIn t xs
     → zip_with f xs (replicate n c) ≡ zip_with (value Identity t) xs (replicate n (pos 0))

@@ -20,13 +20,12 @@ use Rattle.arr_ops.proofs.Spots.{Formed, is_scalar, well_at, operands_of, types_
 use Rattle.arr_rewrite.specs.Rules.{is_scalar as scalar_code, is_identity, constant_op, copy_op, code_op, constant_folded, known_value, neutral_dropped, neutral_beside, neutral_right, neutral_left, fixed_known, power_unrolled, small_power, subtraction_turned, less_constant}
 use Rattle.arr_rewrite.specs.NormalForm.{op_worth, maker_place, code_worth, operand_worth}
 use Rattle.arr_rewrite.proofs.Options.{some_same}
-use Rattle.arr_rewrite.proofs.Parts.{Among}
+use Rattle.arr_rewrite.proofs.Parts.{Among, at_first, at_second}
 use Rattle.arr_rewrite.proofs.Sources.{Reads, reads_at}
 use Rattle.arr_rewrite.proofs.Replace.{scalar_kind}
 use Rattle.arr_rewrite.proofs.Codes.{OneType}
 use Rattle.arr_rewrite.proofs.Kept.{neutral_code}
 use Rattle.arr_rewrite.proofs.KeptFixed.{Decided, decided_by}
-use Rattle.arr_rewrite.proofs.KeptHistory.{at_first, at_second}
 use Rattle.arr_rewrite.proofs.Measure.{constant_falls, copy_falls}
 use Rattle.arr_rewrite.proofs.Turns.{Turn, Shaped, shaped_all, elementwise_again, constant_kept, copy_kept, code_kept, weigh}
 

@@ -25,11 +25,10 @@ use Rattle.arr_rewrite.specs.NextRewrite.{Beside, beside, known_operand, first_n
 use Rattle.arr_rewrite.specs.NormalForm.{maker_place, code_worth, operand_worth}
 use Rattle.arr_rewrite.proofs.Agree.{unnamed_test}
 use Rattle.arr_rewrite.proofs.Replace.{scalar_kind}
-use Rattle.arr_rewrite.proofs.Parts.{Among, all_join, not_is}
+use Rattle.arr_rewrite.proofs.Parts.{Among, all_join, not_is, one, at_first, at_second}
 use Rattle.arr_rewrite.proofs.Sources.{Reads, reads_at, reads_of, carried}
 use Rattle.arr_rewrite.proofs.Changed.{same_itself}
 use Rattle.arr_rewrite.proofs.KeptRemoved.{maker_bare}
-use Rattle.arr_rewrite.proofs.KeptHistory.{at_first, at_second}
 use Rattle.arr_rewrite.proofs.KeptConstants.{Known, known, written_out}
 use Rattle.arr_rewrite.proofs.KeptCopies.{Copied, copied}
 use Rattle.arr_rewrite.proofs.KeptJoins.{Regroups, regroups_of, Joined, joined_found, beside_input}
@@ -38,10 +37,6 @@ use Rattle.arr_rewrite.proofs.Turns.{Turn, Shaped, shaped_all, elementwise_again
 use Rattle.arr_rewrite.proofs.TurnsOne.{elementwise_at}
 
 -- ---- the writer
-
-one : (b : Bool) → (b || false) ≡ true → b ≡ true
-one true h = refl
-one false h = h
 
 pub makes_not : (out : Option Strided) (makes : Bool) (b : ℕ) → AllByRecursion (λ (v : Strided). (v.base == b) ≡ false) (option_to_list out) → (makes && list_any (λ (o : Strided). o.base == b) (option_to_list out)) ≡ false
 makes_not out false b h = refl
