@@ -1,12 +1,12 @@
 -- The codes of which a constant is dropped, or alone decides.
-use Rattle.std.proofs.Common.{◌≡◌, ℤ, Bool, true, false, refl, Option, Some}
+use Rattle.std.proofs.Common.{◌≡◌, ℤ, true, false, refl, Some}
 use Rattle.std.proofs.lemmas.Bool.{false≢true}
-use Rattle.arr_num.specs.Kinds.{kind, Kind, Binary}
+use Rattle.arr_num.specs.Kinds.{kind, Binary}
 use Rattle.arr_num.specs.declared.elem.Elem.{Elem}
 use Rattle.arr_num.specs.declared.code.Code.{Code}
 use Rattle.arr_num.specs.declared.code.Code.TheVariants.{Add, Subtract, Multiply, Divide, Mod, Maximum, Minimum, BitwiseAnd, BitwiseOr, BitwiseXor, LeftShift, RightShift}
 use Rattle.arr_ops.specs.declared.op.Op.{Op}
-use Rattle.arr_ops.specs.Formed.{types_kept, numbers_kept, numbers_of, same_elem}
+use Rattle.arr_ops.specs.Formed.{types_kept, same_elem}
 use Rattle.arr_ops.proofs.Spots.{same_elem_is}
 use Rattle.arr_rewrite.specs.Rules.{is_identity, neutral_right, neutral_left, fixed_right, fixed_left}
 

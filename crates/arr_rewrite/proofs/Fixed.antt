@@ -1,19 +1,18 @@
 -- Constants that alone decide a value.
-use Rattle.std.proofs.Common.{◌≡◌, ℕ, ◌+◌, ◌-◌, ◌*◌, ◌^◌, ◌%◌, ◌/◌, ◌≤◌, ◌<◌, suc, zero, ℤ, pos, negsuc, List, [], ◌∷◌, Bool, true, false, cond, ◌||◌, refl, ap, ap₂, sym, ◌∙◌, arith, Option, Some, None, inl, inr}
-use Rattle.std.proofs.lemmas.Bool.{false≢true, cases_lt, ltb-true}
-use Rattle.std.proofs.lemmas.Int.{ints, clamps}
+use Rattle.std.proofs.Common.{◌≡◌, ℕ, ◌-◌, ◌^◌, ◌%◌, ◌/◌, ◌<◌, suc, ℤ, pos, negsuc, Bool, true, false, cond, ◌||◌, refl, ap, sym, ◌∙◌, arith, Some, inl, inr}
+use Rattle.std.proofs.lemmas.Bool.{cases_lt}
+use Rattle.std.proofs.lemmas.Int.{ints}
 use Rattle.std.proofs.lemmas.Nat.Bits.{same_from_bits, bit_at_or, bit_at_ones, bit_at_ones_above, bit_at_above}
 use Rattle.std.specs.Int.Bits.{and_zero_r, and_comm, or_comm}
-use Rattle.std.specs.Prelude.{◌≤ℤ◌, ◌*ℤ◌, bit_and, bit_or, min, max}
-use Rattle.std.specs.Int.{int_max, int_min, int_shr, bit_at}
+use Rattle.std.specs.Prelude.{◌*ℤ◌, bit_and, bit_or}
+use Rattle.std.specs.Int.{int_shr, bit_at}
 use Rattle.std.specs.Int.RustNames.{int_div, int_rem}
-use Rattle.std.specs.List.{AllByRecursion}
-use Rattle.arr_num.specs.Numbers.{bits, size, in_type, digits, wrap, same, ones, least, greatest, shift, quotient, remainder, value}
+use Rattle.arr_num.specs.Numbers.{bits, in_type, digits, wrap, same, ones, least, greatest, shift, quotient, remainder, value}
 use Rattle.arr_num.specs.declared.elem.Elem.{Elem}
 use Rattle.arr_num.specs.declared.elem.Elem.TheVariants.{U8, I32, I64, U64}
 use Rattle.arr_num.specs.declared.code.Code.{Code}
 use Rattle.arr_num.specs.declared.code.Code.TheVariants.{Multiply, Divide, Mod, Maximum, Minimum, BitwiseAnd, BitwiseOr, LeftShift, RightShift}
-use Rattle.arr_num.proofs.Wrapping.{digits_below, wrap_same, same_is}
+use Rattle.arr_num.proofs.Wrapping.{digits_below, same_is}
 use Rattle.arr_ops.proofs.Tests.{or_cases}
 use Rattle.arr_ops.proofs.Typed.{zero_in}
 use Rattle.arr_rewrite.specs.Rules.{fixed_right, fixed_left}

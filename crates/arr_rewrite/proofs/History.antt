@@ -1,8 +1,7 @@
--- What the only writer of a base left there is still there: rules 5, 6 and 7.
-use Rattle.std.proofs.Common.{◌≡◌, ◌≢◌, ℕ, ◌+◌, ◌<◌, suc, zero, ℤ, pos, List, [], ◌∷◌, ◌++◌, true, cond, ◌||◌, ◌&&◌, refl, ap, ap₂, sym, ◌∙◌, arith, Option, Some, None, map, length, get_or, replicate, append_assoc}
+-- What the only writer of a base left there is still there.
+use Rattle.std.proofs.Common.{◌≡◌, ℕ, ◌+◌, ◌<◌, suc, zero, ℤ, pos, List, [], ◌∷◌, ◌++◌, true, cond, refl, ap, ap₂, sym, ◌∙◌, arith, Option, Some, None, map, length, get_or, replicate, append_assoc}
 use Rattle.std.proofs.lemmas.Bool.{eq-eqb}
 use Rattle.std.proofs.lemmas.List.{length_push, get_or-replicate, length-map}
-use Rattle.std.specs.Prelude.{◌==◌}
 use Rattle.std.specs.List.{AllByRecursion, range_with_len}
 use Rattle.std.specs.Option.{option_to_list}
 use Rattle.arr_view.specs.Strided.{Strided}
@@ -111,7 +110,7 @@ pub view_left : (v : Strided) (fs : List Op) (m : Memory) → AllByRecursion (λ
 view_left v [] m a = refl
 view_left v (f ∷ fs) m a = view_left v fs (step m f) a.1 ∙ read_spared f (computed m f) v (m.bases v.base) a.0
 
--- ---- 5: a base filled with a constant
+-- ---- a base filled with a constant
 
 pub filled_shows : (k : Memory) (w : Op) (o x : Strided) (z : ℤ) (n : ℕ) (between : List Op) → Wrote w o between → w.code ≡ Identity → w.first ≡ Some (Number z) → w.second ≡ None → in_type w.to z ≡ true
     → x.base ≡ o.base → AllByRecursion (λ p. p < positions o.lengths) (elements x) → length (elements x) ≡ n
@@ -162,7 +161,7 @@ identity_constant m op x z code none first second e =
     ∙ sym (zip_constant (value Identity op.to) n (wrap op.to z) (pos 0))
     ∙ sym (computed_scalar m (constant_op op (wrap op.to z)) refl))
 
--- ---- 6: a base that copies a view
+-- ---- a base that copies a view
 
 pub length_read : (c : Option Cell) (es : List ℕ) → length (read c es) ≡ length es
 length_read None es = length-map es (λ p. pos 0)
@@ -213,7 +212,7 @@ second_copied m op y v second e =
     let n : ℕ = walk_length op in
     ap (put m op) (ap (results op.code op.to (lengths_of op.first) (or_zero op.axis) (first_numbers op.code m n op.first)) (ap (operand m n) second ∙ e))
 
--- ---- 7: two constants of one code
+-- ---- two constants of one code
 
 beside_shows : (m : Memory) (n : ℕ) (f : ℤ → ℤ → ℤ) (swap : (x y : ℤ) → f x y ≡ f y x) (first second : Option Operand) (y : Beside) → beside first second ≡ Some y
     → zip_with f (operand m n first) (operand m n second) ≡ zip_with f (read (m.bases y.view.base) (elements y.view)) (replicate n y.number)

@@ -1,18 +1,14 @@
 -- Two constants of a sum, a product or a bitwise operation join into one.
-use Rattle.std.proofs.Common.{◌≡◌, ℕ, ◌+◌, ◌-◌, ◌*◌, ◌%◌, ◌≤◌, ◌<◌, suc, zero, ℤ, pos, negsuc, refl, ap, ap₂, sym, ◌∙◌, arith}
-use Rattle.std.proofs.lemmas.Bool.{leb-true}
-use Rattle.std.proofs.lemmas.Int.{ints, int_rem_euclid_is}
-use Rattle.std.proofs.lemmas.Nat.{and_mod, or_mod, xor_mod, and_assoc, mul-mod, mul-mod_first, mul-mod_second}
-use Rattle.std.proofs.Math.Nat.{mod-add-mod, add-mod-mod, add-mod}
+use Rattle.std.proofs.Common.{◌≡◌, ℤ, pos, ap, arith}
+use Rattle.std.proofs.lemmas.Int.{ints}
+use Rattle.std.proofs.lemmas.Nat.{and_mod, or_mod, xor_mod, and_assoc}
 use Rattle.std.specs.Int.Bits.{and_comm, or_comm, xor_comm, xor_assoc}
-use Rattle.std.proofs.Math.IntN.{pos-*ℤ-pos, pos-*ℤ-negsuc, negsuc-*ℤ-pos, negsuc-*ℤ-negsuc, *ℤ_comm, neg_ℤ}
-use Rattle.arr_num.specs.declared.elem.Elem.TheVariants.{U8, I32, I64, U64}
-use Rattle.std.specs.Prelude.{◌+ℤ◌, ◌*ℤ◌, unsigned_abs, bit_and, bit_or, bit_xor}
-use Rattle.arr_num.specs.Numbers.{bits, size, digits, wrap, value}
+use Rattle.std.proofs.Math.IntN.{*ℤ_comm}
+use Rattle.std.specs.Prelude.{◌+ℤ◌, bit_and, bit_or, bit_xor}
+use Rattle.arr_num.specs.Numbers.{bits, digits, wrap, value}
 use Rattle.arr_num.specs.declared.elem.Elem.{Elem}
 use Rattle.arr_num.specs.declared.code.Code.{Code}
 use Rattle.arr_num.specs.declared.code.Code.TheVariants.{Add, Multiply, BitwiseAnd, BitwiseOr, BitwiseXor}
-use Rattle.arr_num.proofs.Wrapping.{size_more, digits_wrap, wrap_by_digits}
 use Rattle.arr_num.proofs.Folds.{sum_join, product_join}
 use Rattle.arr_rewrite.proofs.Scalars.{bits_join, or_assoc}
 

@@ -1,19 +1,15 @@
--- The rules keep the memory that a formed list leaves.
-use Rattle.std.proofs.Common.{◌≡◌, ◌≢◌, ◌+◌, ◌<◌, ℤ, List, ◌∷◌, ◌++◌, true, false, ◌||◌, ◌&&◌, refl, ap, sym, subst, ◌∙◌, Option, Some, None}
-use Rattle.std.proofs.lemmas.Bool.{false≢true}
-use Rattle.std.specs.Prelude.{◌==◌, is_none}
+-- A constant that changes nothing keeps the memory that a formed list leaves.
+use Rattle.std.proofs.Common.{◌≡◌, List, ◌∷◌, ◌++◌, true, refl, ap, sym, subst, ◌∙◌, Option, Some, None}
+use Rattle.std.specs.Prelude.{is_none}
 use Rattle.std.specs.List.{AllByRecursion}
 use Rattle.arr_view.specs.Strided.{Strided}
 use Rattle.arr_ops.specs.Ops.{inputs}
 use Rattle.arr_num.specs.Kinds.{kind}
 use Rattle.arr_ops.specs.Memory.{Memory, eager, step}
-use Rattle.arr_ops.specs.Formed.{types_kept, elementwise, plain, well_formed}
+use Rattle.arr_ops.specs.Formed.{elementwise, plain, well_formed}
 use Rattle.arr_ops.specs.Fits.{fits}
 use Rattle.arr_rewrite.specs.Rules.{neutral_right, neutral_left, neutral_beside, neutral_dropped, copy_op}
-use Rattle.arr_ops.proofs.Spots.{is_scalar, Formed, held, well_at, operands_of, types_of, scalar_elementwise, same_elem_is, none_from}
-use Rattle.arr_num.specs.declared.elem.Elem.{Elem}
-use Rattle.arr_num.specs.declared.code.Code.{Code}
-use Rattle.arr_num.specs.declared.code.Code.TheVariants.{Add, Subtract, Multiply, Divide, Maximum, Minimum, BitwiseAnd, BitwiseOr, BitwiseXor, LeftShift, RightShift}
+use Rattle.arr_ops.proofs.Spots.{is_scalar, Formed, held, well_at, operands_of, types_of, scalar_elementwise, none_from}
 use Rattle.arr_ops.specs.declared.op.Op.{Op}
 use Rattle.arr_ops.specs.declared.op.Operand.{Operand}
 use Rattle.arr_ops.specs.declared.op.Operand.TheVariants.{Array, Number}

@@ -1,5 +1,5 @@
 -- A constant carried into an operand keeps the memory that a formed list leaves.
-use Rattle.std.proofs.Common.{◌≡◌, ◌≢◌, ℕ, ◌+◌, ◌<◌, ℤ, List, [], ◌∷◌, ◌++◌, Bool, true, false, cond, not, ◌||◌, ◌&&◌, refl, ap, ap₂, sym, subst, ◌∙◌, Option, Some, None, length, replicate}
+use Rattle.std.proofs.Common.{◌≡◌, ℕ, ℤ, List, [], ◌∷◌, ◌++◌, Bool, true, false, cond, not, ◌||◌, refl, ap, ap₂, sym, subst, ◌∙◌, Option, Some, None, length, replicate}
 use Rattle.std.proofs.lemmas.Bool.{false≢true, eqb-true}
 use Rattle.std.specs.Prelude.{◌==◌, is_some, nat_lt}
 use Rattle.std.specs.List.{AllByRecursion, list_all, list_any}
@@ -24,9 +24,9 @@ use Rattle.arr_ops.proofs.Tests.{both_left, both_right, all_of}
 use Rattle.arr_rewrite.proofs.Replace.{walk_length, scalar_kind}
 use Rattle.arr_rewrite.proofs.Kept.{same_step}
 use Rattle.arr_rewrite.proofs.KeptRemoved.{identity_is}
-use Rattle.arr_rewrite.proofs.KeptHistory.{Found, found_before, inputs_named, at_second, filled_reads}
-use Rattle.arr_rewrite.proofs.KeptHistory.{at_first}
+use Rattle.arr_rewrite.proofs.KeptHistory.{Found, found_before, inputs_named, filled_reads}
 use Rattle.arr_rewrite.proofs.History.{first_constant, second_constant, identity_constant}
+use Rattle.arr_rewrite.proofs.Parts.{at_second, at_first}
 
 -- what the test of an operand finds
 pub record Known (front : List Op) (o : Option Operand) (z : ℤ) : Type 0 where
@@ -42,7 +42,7 @@ source_is (Some (Number y)) z e = let same : y ≡ z = cc in ap (λ k. Some (Num
 source_is (Some (Array x)) z e = absurd (cc)
 source_is None z e = absurd (cc)
 
-known : (front back : List Op) (o : Option Operand) (z : ℤ) → known_operand front back o ≡ Some z → Known front o z
+pub known : (front back : List Op) (o : Option Operand) (z : ℤ) → known_operand front back o ≡ Some z → Known front o z
 known front back None z e = absurd (cc)
 known front back (Some (Number y)) z e = absurd (cc)
 known front back (Some (Array x)) z e =

@@ -1,6 +1,6 @@
 -- A copied view carried into an operand, and constants joined, keep the memory that a formed list leaves.
-use Rattle.std.proofs.Common.{◌≡◌, ◌≢◌, ℕ, ◌+◌, ◌<◌, List, ◌∷◌, ◌++◌, Bool, true, false, cond, not, ◌||◌, ◌&&◌, refl, ap, sym, subst, ◌∙◌, Option, Some, None, length, append_assoc}
-use Rattle.std.proofs.lemmas.Bool.{false≢true, eqb-true, eq-eqb}
+use Rattle.std.proofs.Common.{◌≡◌, ℕ, List, ◌∷◌, ◌++◌, Bool, true, false, cond, not, ◌||◌, ◌&&◌, refl, ap, sym, subst, ◌∙◌, Option, Some, None, length, append_assoc}
+use Rattle.std.proofs.lemmas.Bool.{false≢true, eqb-true}
 use Rattle.std.specs.Prelude.{◌==◌, is_some}
 use Rattle.std.specs.List.{AllByRecursion, list_all, list_any, range_with_len}
 use Rattle.std.specs.Option.{option_to_list, option_or}
@@ -28,14 +28,10 @@ use Rattle.arr_ops.proofs.Typed.{CellFits}
 use Rattle.arr_rewrite.proofs.Options.{some_true, some_same}
 use Rattle.arr_rewrite.proofs.Kept.{same_step}
 use Rattle.arr_rewrite.proofs.KeptRemoved.{identity_is}
-use Rattle.arr_rewrite.proofs.KeptHistory.{Found, found_before, inputs_named, at_second, wrote}
-use Rattle.arr_rewrite.proofs.KeptHistory.{at_first}
+use Rattle.arr_rewrite.proofs.KeptHistory.{Found, found_before, inputs_named, wrote}
 use Rattle.arr_rewrite.proofs.KeptConstants.{written_out}
 use Rattle.arr_rewrite.proofs.History.{Wrote, copy_shows, first_copied, second_copied}
-
-turned_not : (y : Bool) → not y ≡ true → y ≡ false
-turned_not true h = absurd (false≢true h)
-turned_not false h = refl
+use Rattle.arr_rewrite.proofs.Parts.{not_is, equal_turned, one, at_first, at_second}
 
 -- what a creator's well-formedness says: its output is the whole base, and no input is in it
 pub record Creator (w : Op) (o : Strided) : Type 0 where
@@ -51,7 +47,7 @@ creator_test w (Some u) o true e m h =
     let a = both_left (is_whole u && list_all (λ (v : Strided). not (v.base == u.base)) (inputs w)) true h in
     subst (Creator w) same (record {
       whole = same_from_test (elements u) (range_with_len 0 (positions u.lengths)) (both_left (is_whole u) _ a);
-      apart = All_weaker (λ (v : Strided). not (v.base == u.base) ≡ true) (λ (v : Strided). (v.base == u.base) ≡ false) (λ v t. turned_not (v.base == u.base) t) (inputs w)
+      apart = All_weaker (λ (v : Strided). not (v.base == u.base) ≡ true) (λ (v : Strided). (v.base == u.base) ≡ false) (λ v t. not_is (v.base == u.base) t) (inputs w)
           (all_of (λ (v : Strided). not (v.base == u.base)) (inputs w) (both_right (is_whole u) _ a));
     })
 
@@ -60,9 +56,6 @@ creator_of w o e m well =
     creator_test w w.out o w.makes e m
     (both_right (list_all (λ o. not (repeated (elements o))) (outputs w)) _ (both_right (list_all is_view (views w)) _ (both_right (kind_kept w) _ well)))
 
-equal_turned : (a b : ℕ) → (a == b) ≡ false → (b == a) ≡ false
-equal_turned a b h = elim (b == a) as (λ t. (b == a) ≡ t → t ≡ false) [ true ↦ λ e. absurd (false≢true (sym h ∙ eq-eqb a b (sym (eqb-true b a e)))) | false ↦ λ e. refl ] refl
-
 spared_by : (f : Op) (v : Strided) (names : List ℕ) (out : Option Strided) (makes : Bool) → has names v.base ≡ true → (list_any (λ o. overlap o v) (option_to_list out)) ≡ false
     → (not makes || list_all (λ (o : Strided). not (has names o.base)) (option_to_list out)) ≡ true → Misses out makes v
 spared_by f v names None makes n s h = tt
@@ -70,7 +63,7 @@ spared_by f v names (Some u) false n s h = (or_left (overlap u v) false s, λ e.
 spared_by f v names (Some u) true n s h = (
   or_left (overlap u v) false s,
   λ e. elim (u.base == v.base) as (λ t. (u.base == v.base) ≡ t → t ≡ false) [
-    | true ↦ λ d. absurd (false≢true (sym (turned_not (has names u.base) (both_left (not (has names u.base)) true h)) ∙ ap (has names) (eqb-true u.base v.base d) ∙ n))
+    | true ↦ λ d. absurd (false≢true (sym (not_is (has names u.base) (both_left (not (has names u.base)) true h)) ∙ ap (has names) (eqb-true u.base v.base d) ∙ n))
     | false ↦ λ d. refl
   ] refl,
 )
@@ -114,7 +107,7 @@ traced pre between back w op o x v formed makes out scalar same alone names clea
         missed = subst (λ (u : Option Strided). Misses u w.makes v) (sym out) (ap (λ t. t && share (elements o) (elements v)) away, λ _. away);
       };
       spared = all_two (λ f. not (spoils v f) ≡ true) (λ f. may_precede w f ≡ true) (λ f. Spared f v)
-          (λ f a b. let s : spoils v f ≡ false = turned_not (spoils v f) a in
+          (λ f a b. let s : spoils v f ≡ false = not_is (spoils v f) a in
           record {
             kept = or_right (list_any (λ u. overlap u v) (outputs f)) (has (freed f) v.base) s;
             missed = spared_by f v (named w) f.out f.makes named_v (or_left (list_any (λ u. overlap u v) (outputs f)) (has (freed f) v.base) s)
@@ -128,7 +121,7 @@ traced pre between back w op o x v formed makes out scalar same alone names clea
         let moved : Formed (pre ++ w ∷ (between ++ op ∷ back)) = subst Formed (append_assoc pre (w ∷ between) (op ∷ back)) formed in
         all_left (λ f. may_precede w f ≡ true) between (op ∷ back) (pairs_after (λ f g. may_precede f g ≡ true) pre w (between ++ op ∷ back) moved.order)
 
--- ---- 6
+-- ---- a copied view is carried
 
 pub record Copied (front : List Op) (operand : Option Operand) (v : Strided) : Type 0 where
   pub view : Strided
@@ -201,10 +194,6 @@ copy_reads m front back op formed fit o v k names =
       subst (λ (n : Memory). read (n.bases k.view.base) (elements k.view) ≡ read (n.bases v.base) (elements v)) (sym there)
           (copy_shows (eager m pre) w out.0 k.view v between t.wrote k.code k.source second holds2 t.size t.base t.whole t.spared_w t.spared),
     )
-  where
-    one : (b : Bool) → (b || false) ≡ true → b ≡ true
-    one true h = refl
-    one false h = h
 
 pub copy_carried_keeps : (m : Memory) (front back : List Op) (op next : Op) → Formed (front ++ op ∷ back) → fits m (front ++ op ∷ back) ≡ true
     → copy_carried front op back ≡ Some next → eager m (front ++ op ∷ back) ≡ eager m (front ++ next ∷ back)

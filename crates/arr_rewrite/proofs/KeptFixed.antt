@@ -1,22 +1,22 @@
 -- A constant that alone decides keeps the memory that a formed list leaves.
-use Rattle.std.proofs.Common.{◌≡◌, ℕ, suc, zero, ℤ, pos, List, [], ◌∷◌, ◌++◌, Bool, true, false, ◌&&◌, refl, ap, ap₂, sym, subst, ◌∙◌, arith, Option, Some, None, length, replicate, map, get_or}
+use Rattle.std.proofs.Common.{◌≡◌, ℕ, suc, zero, ℤ, pos, List, [], ◌∷◌, ◌++◌, true, refl, ap, ap₂, sym, subst, ◌∙◌, arith, Option, Some, None, length, replicate}
 use Rattle.std.specs.Prelude.{is_some}
 use Rattle.std.specs.List.{AllByRecursion}
 use Rattle.arr_view.specs.Strided.{Strided}
 use Rattle.arr_view.specs.Views.{elements, positions}
-use Rattle.arr_ops.specs.Ops.{inputs, view_of}
+use Rattle.arr_ops.specs.Ops.{inputs}
 use Rattle.arr_num.specs.Kinds.{kind}
 use Rattle.arr_num.specs.Numbers.{in_type, value}
 use Rattle.arr_num.specs.declared.elem.Elem.{Elem}
 use Rattle.arr_num.specs.declared.code.Code.TheVariants.{Identity}
-use Rattle.arr_ops.specs.Memory.{Memory, Cell, eager, step, zip_with, operand, read, out_lengths}
-use Rattle.arr_ops.specs.Formed.{types_kept, elementwise, plain, well_formed}
+use Rattle.arr_ops.specs.Memory.{Memory, eager, step, zip_with, operand, read, out_lengths}
+use Rattle.arr_ops.specs.Formed.{elementwise, plain, well_formed}
 use Rattle.arr_ops.specs.declared.op.Op.{Op}
 use Rattle.arr_ops.specs.declared.op.Operand.{Operand}
 use Rattle.arr_ops.specs.declared.op.Operand.TheVariants.{Array, Number}
 use Rattle.arr_ops.proofs.Tests.{both_left, both_right}
 use Rattle.arr_ops.proofs.Typed.{zero_in, AllIn, CellFits, read_in}
-use Rattle.arr_ops.proofs.Spots.{is_scalar, Formed, held, well_at, operands_of, types_of, scalar_elementwise, by_output, Plain, plain_at}
+use Rattle.arr_ops.proofs.Spots.{is_scalar, held, well_at, operands_of, types_of, scalar_elementwise, by_output, Plain, plain_at}
 use Rattle.arr_num.proofs.Wrapping.{wrap_same}
 use Rattle.arr_rewrite.specs.Rules.{fixed_right, fixed_left, fixed_to, fixed_beside, fixed_known, constant_op}
 use Rattle.arr_rewrite.proofs.Codes.{OneType, fixed_right_code, fixed_left_code}
@@ -25,7 +25,7 @@ use Rattle.arr_rewrite.proofs.Scalars.{value_identity}
 use Rattle.arr_rewrite.proofs.Replace.{to_changed, computed_scalar, walk_length}
 use Rattle.arr_rewrite.proofs.History.{zip_constant, length_read}
 use Rattle.arr_rewrite.proofs.Kept.{same_step, KeepsMemory}
-use Rattle.arr_rewrite.proofs.KeptHistory.{at_first, at_second}
+use Rattle.arr_rewrite.proofs.Parts.{at_first, at_second}
 
 zip_right : (f : ℤ → ℤ → ℤ) (t : Elem) (c z : ℤ) → ((x : ℤ) → in_type t x ≡ true → f x c ≡ z) → (xs : List ℤ) (n : ℕ) → AllIn t xs → length xs ≡ n → zip_with f xs (replicate n c) ≡ replicate n z
 zip_right f t c z h [] zero a e = refl

@@ -1,12 +1,12 @@
 -- The rules that look at the only writer of a base keep the memory that a formed list leaves.
-use Rattle.std.proofs.Common.{◌≡◌, ◌≢◌, ℕ, ◌+◌, ◌<◌, ℤ, List, [], ◌∷◌, ◌++◌, Bool, true, false, cond, not, ◌||◌, ◌&&◌, refl, ap, sym, subst, ◌∙◌, Option, Some, None, map, length}
+use Rattle.std.proofs.Common.{◌≡◌, ℕ, ◌<◌, ℤ, List, [], ◌∷◌, ◌++◌, Bool, true, false, cond, not, ◌||◌, ◌&&◌, refl, ap, sym, subst, ◌∙◌, Option, Some, None, map, length}
 use Rattle.std.proofs.lemmas.Bool.{false≢true, eqb-true, eq-eqb, ltb-true}
 use Rattle.std.specs.Prelude.{◌==◌, is_some, nat_eq, nat_lt, replicate}
 use Rattle.std.specs.List.{AllByRecursion, list_all, list_any}
 use Rattle.std.specs.Option.{option_to_list}
 use Rattle.arr_view.specs.Strided.{Strided}
 use Rattle.arr_view.specs.Views.{elements, has, positions}
-use Rattle.arr_ops.specs.Ops.{outputs, inputs, views, freed, named, view_of}
+use Rattle.arr_ops.specs.Ops.{outputs, inputs, views, freed, named}
 use Rattle.arr_num.specs.Kinds.{kind, Unary}
 use Rattle.arr_num.specs.Numbers.{in_type}
 use Rattle.arr_ops.specs.Memory.{Memory, eager, read}
@@ -16,7 +16,7 @@ use Rattle.std.specs.Bool.{then_some}
 use Rattle.arr_rewrite.specs.Writers.{Writer, only_writer_in, only_writer, writes_base, unwritten_base}
 use Rattle.arr_num.specs.declared.code.Code.TheVariants.{Identity}
 use Rattle.arr_ops.specs.declared.op.Op.{Op}
-use Rattle.arr_ops.specs.declared.op.Operand.TheVariants.{Array, Number}
+use Rattle.arr_ops.specs.declared.op.Operand.TheVariants.{Number}
 use Rattle.arr_ops.proofs.Pairs.{All_weaker}
 use Rattle.arr_ops.proofs.Tests.{both_left, both_right, all_of, or_cases}
 use Rattle.arr_ops.proofs.Writes.{or_left}
@@ -25,6 +25,7 @@ use Rattle.arr_rewrite.proofs.Options.{some_true, some_same}
 use Rattle.arr_rewrite.proofs.Replace.{walk_length}
 use Rattle.arr_rewrite.proofs.KeptRemoved.{Bare, maker_bare}
 use Rattle.arr_rewrite.proofs.History.{Wrote, filled_shows}
+use Rattle.arr_rewrite.proofs.Parts.{not_is}
 
 -- ---- the writer that is found
 
@@ -58,20 +59,16 @@ found_before front back b w e =
 
 -- ---- from tests
 
-turned_not : (y : Bool) → not y ≡ true → y ≡ false
-turned_not true h = absurd (false≢true h)
-turned_not false h = refl
-
 unwritten_outputs : (b : ℕ) (out : Option Strided) → not (list_any (λ (o : Strided). o.base == b) (option_to_list out)) ≡ true → AllByRecursion (λ (v : Strided). (v.base == b) ≡ false) (option_to_list out)
 unwritten_outputs b None h = tt
-unwritten_outputs b (Some o) h = (or_left (o.base == b) false (turned_not ((o.base == b) || false) h), tt)
+unwritten_outputs b (Some o) h = (or_left (o.base == b) false (not_is ((o.base == b) || false) h), tt)
 
 -- f frees no base that op names
 pub unfreed_base : (frees : Option ℕ) (names : List ℕ) (b : ℕ) → list_all (λ k. not (has names k)) (option_to_list frees) ≡ true → has names b ≡ true → has (option_to_list frees) b ≡ false
 unfreed_base None names b h t = refl
 unfreed_base (Some k) names b h t =
     elim (nat_eq b k) as (λ x. nat_eq b k ≡ x → (x || false) ≡ false) [
-      | true ↦ λ e. absurd (false≢true (sym (turned_not (has names k) (both_left (not (has names k)) true h)) ∙ ap (has names) (sym (eqb-true b k e)) ∙ t))
+      | true ↦ λ e. absurd (false≢true (sym (not_is (has names k) (both_left (not (has names k)) true h)) ∙ ap (has names) (sym (eqb-true b k e)) ∙ t))
       | false ↦ λ e. refl
     ] refl
 
@@ -101,18 +98,6 @@ inputs_named op =
     (λ v t. has_append_left (map (λ (w : Strided). w.base) (views op)) (freed op) v.base t) (inputs op)
     (all_right (λ (v : Strided). has (map (λ (w : Strided). w.base) (views op)) v.base ≡ true) (outputs op) (inputs op) (bases_had (views op)))
 
-pub at_first : (P : Strided → Type 0) (op : Op) (v : Strided) → op.first ≡ Some (Array v) → AllByRecursion P (inputs op) → P v
-at_first P op v e h = (subst (λ f. AllByRecursion P (view_of f ++ view_of op.second)) e h).0
-
-pub at_second : (P : Strided → Type 0) (op : Op) (v : Strided) → op.second ≡ Some (Array v) → AllByRecursion P (inputs op) → P v
-at_second P op v e h = (subst (λ f. AllByRecursion P (view_of f)) e (all_right P (view_of op.first) (view_of op.second) h)).0
-
--- the output in the base
-output_at : (P : Op → Strided → Type 0) (b : ℕ) (w : Op) → ((o : Strided) → w.out ≡ Some o → o.base ≡ b → P w o) → (out : Option Strided) → w.out ≡ out
-    → list_any (λ (o : Strided). o.base == b) (option_to_list out) ≡ true → (o : Strided) × P w o
-output_at P b w f None e h = absurd (false≢true h)
-output_at P b w f (Some o) e h = (o, f o e (eqb-true o.base b (or_cases (o.base == b) false h (λ t. t) (λ t. absurd (false≢true t)))))
-
 -- ---- the writer left its base alone until op
 
 pub wrote : (pre between back : List Op) (w op : Op) (o : Strided) → Formed ((pre ++ w ∷ between) ++ op ∷ back) → w.makes ≡ true → w.out ≡ Some o
@@ -135,7 +120,7 @@ wrote pre between back w op o formed makes out names alone =
           between (all_of (λ f. not (writes_base f o.base)) between alone) later;
     }
 
--- ---- 5
+-- ---- a base filled with a constant
 
 -- the operand x reads z everywhere
 pub filled_reads : (m : Memory) (pre between back : List Op) (w op : Op) (o x : Strided) (z : ℤ) → Formed ((pre ++ w ∷ between) ++ op ∷ back)

@@ -1,5 +1,5 @@
 -- Two constants joined keep the memory that a formed list leaves.
-use Rattle.std.proofs.Common.{◌≡◌, ◌≢◌, ◌+◌, ◌<◌, List, ◌∷◌, ◌++◌, Bool, true, false, cond, ◌||◌, ◌&&◌, refl, ap, sym, subst, ◌∙◌, Option, Some, None}
+use Rattle.std.proofs.Common.{◌≡◌, List, ◌∷◌, ◌++◌, true, false, cond, ◌&&◌, refl, ap, sym, subst, ◌∙◌, Option, Some, None}
 use Rattle.std.proofs.lemmas.Bool.{false≢true, eq-eqb}
 use Rattle.std.specs.Prelude.{◌==◌, is_some}
 use Rattle.std.specs.List.{AllByRecursion, list_any}
@@ -31,14 +31,15 @@ use Rattle.arr_rewrite.proofs.KeptHistory.{Found, found_before, inputs_named}
 use Rattle.arr_rewrite.proofs.KeptConstants.{written_out}
 use Rattle.arr_rewrite.proofs.KeptCopies.{Traced, traced}
 use Rattle.arr_rewrite.proofs.History.{constants_shown}
+use Rattle.arr_rewrite.proofs.Parts.{one}
 
--- what the codes of the rule are
+-- what a code is whose constants are joined
 pub record Regroups (code : Code) (t : Elem) : Type 0 where
   pub joins : Joins code t
   pub scalar : is_scalar (kind code) ≡ true
   pub types : (op : Op) → types_kept code op ≡ true → op.to ≡ op.from
 
-regroups_of : (code : Code) (t : Elem) → regroups code ≡ true → Regroups code t
+pub regroups_of : (code : Code) (t : Elem) → regroups code ≡ true → Regroups code t
 regroups_of Add t h = record { joins = joins_add t; scalar = refl; types = λ op e. same_elem_is op.to op.from e }
 regroups_of Multiply t h = record { joins = joins_multiply t; scalar = refl; types = λ op e. same_elem_is op.to op.from e }
 regroups_of BitwiseAnd t h = record { joins = joins_and t; scalar = refl; types = λ op e. same_elem_is op.to op.from e }
@@ -55,7 +56,7 @@ same_code_is BitwiseXor BitwiseXor h = refl
 same_code_is _ _ h = absurd (false≢true h)
 
 -- the view beside the constant is an input
-beside_input : (P : Strided → Type 0) (first second : Option Operand) (y : Beside) → beside first second ≡ Some y → AllByRecursion P (view_of first ++ view_of second) → P y.view
+pub beside_input : (P : Strided → Type 0) (first second : Option Operand) (y : Beside) → beside first second ≡ Some y → AllByRecursion P (view_of first ++ view_of second) → P y.view
 beside_input P (Some (Array x)) (Some (Number c)) y e h = let same : x ≡ y.view = ap view_in e in subst P same h.0
   where
     view_in : Option Beside → Strided
@@ -82,7 +83,7 @@ pub record Joined (front : List Op) (op next : Op) (x : Beside) : Type 0 where
   pub clean : unspoiled writer.between source.view ≡ true
   pub becomes : code_op op op.code source.view (Number (value op.code op.to source.number x.number)) ≡ next
 
-joined_found : (front back : List Op) (op next : Op) (x : Beside) → joined_to op x (only_writer front back x.view.base) ≡ Some next → Joined front op next x
+pub joined_found : (front back : List Op) (op next : Op) (x : Beside) → joined_to op x (only_writer front back x.view.base) ≡ Some next → Joined front op next x
 joined_found front back op next x e =
     elim (only_writer front back x.view.base) as (λ k. only_writer front back x.view.base ≡ k → joined_to op x k ≡ Some next → Joined front op next x) [
       | None ↦ λ d g. absurd (cc)
@@ -137,10 +138,6 @@ joined_step m front back op next x formed re first k =
     subst (λ (n : Memory). step n op ≡ step n (code_op op op.code k.source.view (Number (value op.code op.to k.source.number x.number)))) (sym there)
     (constants_shown (eager m pre) w op out.0 x k.source between t.wrote k.code (to ∙ sym (r.types op (types_of op well))) r.scalar r.joins walk.0 first k.reads t.base t.whole t.size walk.1 t.spared_w t.spared)
     ∙ ap (step (eager m front)) k.becomes
-  where
-    one : (b : Bool) → (b || false) ≡ true → b ≡ true
-    one true h = refl
-    one false h = h
 
 pub constants_joined_keeps : (m : Memory) (front back : List Op) (op next : Op) → Formed (front ++ op ∷ back)
     → constants_joined front op back ≡ Some next → eager m (front ++ op ∷ back) ≡ eager m (front ++ next ∷ back)

@@ -1,4 +1,4 @@
--- Rules 1 and 8 keep the memory.
+-- Constants folded, and subtractions turned, keep the memory that a formed list leaves.
 use Rattle.std.proofs.Common.{◌≡◌, ℕ, ◌+◌, ◌%◌, suc, zero, ℤ, pos, List, [], ◌∷◌, ◌++◌, true, false, cond, not, ◌&&◌, refl, ap, ap₂, sym, ◌∙◌, arith, Option, Some, None, replicate}
 use Rattle.std.proofs.lemmas.Int.{ints}
 use Rattle.std.specs.Prelude.{◌+ℤ◌, ◌-ℤ◌, is_none}
@@ -29,7 +29,7 @@ no_slot_of op s h =
     let el : elementwise op ≡ true = scalar_elementwise (kind op.code) op s (operands_of op h) in
     none_from op.slot (both_left (is_none op.slot) _ (both_right (is_none op.axis) _ (both_left (plain op) _ el)))
 
--- ---- 1
+-- ---- constants alone
 
 constant_step : (m : Memory) (op : Op) (x y : ℤ) (second : Option Operand) → is_scalar (kind op.code) ≡ true → op.slot ≡ None → op.first ≡ Some (Number x) → op.second ≡ second
     → ((n : ℕ) → operand m n second ≡ replicate n y) → step m op ≡ step m (constant_op op (value op.code op.to x y))
@@ -68,7 +68,7 @@ constant_folded_keeps m front back op next h f e =
           ] g
     ] refl e
 
--- ---- 8
+-- ---- a constant that is subtracted
 
 subtract_add : (t : Elem) (x c : ℤ) → value Subtract t x c ≡ value Add t x (wrap t (pos 0 -ℤ c))
 unfolding value

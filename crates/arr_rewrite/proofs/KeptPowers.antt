@@ -1,16 +1,15 @@
--- Rule 4 keeps the memory.
-use Rattle.std.proofs.Common.{◌≡◌, ℕ, ◌+◌, ◌*◌, ◌^◌, suc, zero, ℤ, pos, negsuc, List, [], ◌∷◌, ◌++◌, true, false, cond, ◌&&◌, refl, ap, ap₂, sym, ◌∙◌, arith, Option, Some, None, replicate, length}
-use Rattle.std.proofs.lemmas.List.{length-map}
+-- A small power keeps the memory that a formed list leaves.
+use Rattle.std.proofs.Common.{◌≡◌, ℕ, ◌*◌, ◌^◌, suc, zero, ℤ, pos, negsuc, List, [], ◌∷◌, ◌++◌, true, false, cond, refl, ap, ap₂, sym, ◌∙◌, arith, Option, Some, None, replicate, length}
 use Rattle.std.proofs.lemmas.Int.{ints}
 use Rattle.std.proofs.Math.Nat.{pow-zero, pow-suc}
 use Rattle.std.proofs.Math.IntN.{pos-*ℤ-pos, negsuc-*ℤ-negsuc}
-use Rattle.std.specs.Prelude.{◌*ℤ◌, is_some, get_or}
+use Rattle.std.specs.Prelude.{◌*ℤ◌, is_some}
 use Rattle.std.specs.Int.{int_pow}
 use Rattle.arr_view.specs.Strided.{Strided}
 use Rattle.arr_view.specs.Views.{elements, positions}
 use Rattle.arr_num.specs.Kinds.{kind}
 use Rattle.arr_num.specs.Numbers.{value, wrap, same}
-use Rattle.arr_ops.specs.Memory.{Memory, Cell, eager, step, zip_with, operand, read, computed, out_lengths}
+use Rattle.arr_ops.specs.Memory.{Memory, eager, step, zip_with, operand, read, computed, out_lengths}
 use Rattle.arr_ops.specs.Formed.{elementwise, plain, well_formed}
 use Rattle.arr_ops.proofs.Spots.{is_scalar, well_at, operands_of, scalar_elementwise, by_output, Plain, plain_at}
 use Rattle.arr_rewrite.specs.Rules.{power_unrolled, small_power, constant_op, copy_op, code_op}
@@ -26,8 +25,8 @@ use Rattle.arr_num.proofs.Wrapping.{same_is}
 use Rattle.arr_rewrite.proofs.Options.{some_true, some_same}
 use Rattle.arr_rewrite.proofs.Replace.{to_changed, computed_scalar, walk_length}
 use Rattle.arr_rewrite.proofs.Kept.{same_step, KeepsMemory}
-use Rattle.arr_rewrite.proofs.KeptHistory.{at_first}
 use Rattle.arr_rewrite.proofs.History.{length_read}
+use Rattle.arr_rewrite.proofs.Parts.{at_first}
 
 power_none : (x : ℤ) → int_pow x 0 ≡ pos 1
 power_none (pos n) = ap pos (pow-zero n)

@@ -1,5 +1,5 @@
 -- The rules that remove operations keep the memory that a formed list leaves.
-use Rattle.std.proofs.Common.{◌≡◌, ◌≢◌, ℕ, ◌+◌, ◌<◌, List, [], ◌∷◌, ◌++◌, Bool, true, false, cond, not, ◌||◌, ◌&&◌, refl, ap, ap₂, sym, subst, ◌∙◌, Option, Some, None}
+use Rattle.std.proofs.Common.{◌≡◌, ℕ, List, [], ◌∷◌, ◌++◌, Bool, true, false, cond, not, ◌||◌, ◌&&◌, refl, ap, ap₂, sym, subst, ◌∙◌, Option, Some, None}
 use Rattle.std.proofs.lemmas.Bool.{false≢true, eqb-true, eq-eqb, ne_eqb, eqb-false}
 use Rattle.std.specs.Prelude.{◌==◌, is_some, is_none, nat_eq}
 use Rattle.std.specs.List.{AllByRecursion, list_all, list_any}
@@ -25,16 +25,13 @@ use Rattle.arr_rewrite.proofs.Agree.{eager-append, Unnamed, unnamed_test, Leaves
 use Rattle.arr_ops.proofs.Typed.{CellFits}
 use Rattle.arr_rewrite.proofs.Options.{some_true, some_same}
 use Rattle.arr_rewrite.proofs.Removed.{copy_to_itself, OnlyTo, Passes, unused_removed}
+use Rattle.arr_rewrite.proofs.Parts.{at_first}
 
 pub identity_is : (code : Code) → is_identity code ≡ true → code ≡ Identity
 identity_is Identity h = refl
 identity_is _ h = absurd (false≢true h)
 
--- ---- 9
-
-not_true : (b : Bool) → (b ≡ true → ⊥) → b ≡ false
-not_true true h = absurd (h refl)
-not_true false h = refl
+-- ---- a copy of a view to itself
 
 -- the output and the input of a copy to itself
 pub record ToItself (op : Op) : Type 0 where
@@ -45,7 +42,7 @@ pub record ToItself (op : Op) : Type 0 where
   pub second : op.second ≡ None
   pub same : identical o v ≡ true
 
-find_itself : (op : Op) (out : Option Strided) (first second : Option Operand) → op.out ≡ out → op.first ≡ first → op.second ≡ second → is_none second ≡ true
+pub find_itself : (op : Op) (out : Option Strided) (first second : Option Operand) → op.out ≡ out → op.first ≡ first → op.second ≡ second → is_none second ≡ true
     → some_pair identical (option_to_list out) (view_of first ++ view_of second) ≡ true → ToItself op
 find_itself op None first second p q r n h = absurd (false≢true h)
 find_itself op (Some o) None None p q r n h = absurd (or_cases false false h false≢true false≢true)
@@ -61,7 +58,7 @@ find_itself op (Some o) (Some (Array v)) None p q r n h =
     }
 find_itself op out first (Some x) p q r n h = absurd (false≢true n)
 
-input_apart : (op : Op) (out : Option Strided) (o v : Strided) (makes : Bool) → out ≡ Some o → op.first ≡ Some (Array v)
+pub input_apart : (op : Op) (out : Option Strided) (o v : Strided) (makes : Bool) → out ≡ Some o → op.first ≡ Some (Array v)
     → (not makes || (is_some out && list_all (λ (u : Strided). is_whole u && list_all (λ (w : Strided). not (w.base == u.base)) (inputs op)) (option_to_list out))) ≡ true
     → (o.base == v.base) ≡ true → makes ≡ false
 input_apart op out o v false p q h e = refl
@@ -75,18 +72,26 @@ input_apart op (Some u) o v true p q h e =
     let d : v.base ≡ u.base = sym (eqb-true o.base v.base e) ∙ ap (λ (w : Strided). w.base) (sym same) in
     absurd (false≢true (sym (ap not (eq-eqb v.base u.base d)) ∙ c))
 
+pub itself_unary : (op : Op) → well_formed op ≡ true → copies_itself op ≡ true → operands_kept Unary op ≡ true
+itself_unary op well e = ap (λ c. operands_kept (kind c) op) (sym (identity_is op.code (both_left (is_identity op.code) (some_pair identical (outputs op) (inputs op)) e))) ∙ operands_of op well
+
+pub itself_of : (op : Op) → well_formed op ≡ true → copies_itself op ≡ true → ToItself op
+itself_of op well e =
+    find_itself op op.out op.first op.second refl refl refl
+    (both_right (is_some op.first) (is_none op.second) (both_right (elementwise op) (is_some op.first && is_none op.second) (itself_unary op well e)))
+    (both_right (is_identity op.code) (some_pair identical (outputs op) (inputs op)) e)
+
 pub copies_kept : (m : Memory) (front back : List Op) (op : Op) → Formed (front ++ op ∷ back) → fits m (front ++ op ∷ back) ≡ true
     → copies_itself op ≡ true → eager m (front ++ op ∷ back) ≡ eager m (front ++ back)
 copies_kept m front back op formed fit e =
     let n : Memory = eager m front in
     let well : well_formed op ≡ true = well_at front back op formed in
     let code : op.code ≡ Identity = identity_is op.code (both_left (is_identity op.code) _ e) in
-    let kept : operands_kept Unary op ≡ true = ap (λ c. operands_kept (kind c) op) (sym code) ∙ operands_of op well in
-    let el : elementwise op ≡ true = both_left (elementwise op) _ kept in
-    let t : ToItself op = find_itself op op.out op.first op.second refl refl refl (both_right (is_some op.first) _ (both_right (elementwise op) _ kept)) (both_right (is_identity op.code) _ e) in
+    let el : elementwise op ≡ true = both_left (elementwise op) (is_some op.first && is_none op.second) (itself_unary op well e) in
+    let t : ToItself op = itself_of op well e in
     let p : Plain op t.o = plain_at op t.o t.out well el in
-    let base : (t.o.base == t.v.base) ≡ true = both_left (t.o.base == t.v.base) _ t.same in
-    let places : elements t.o ≡ elements t.v = same_from_test (elements t.o) (elements t.v) (both_right (same_lists t.o.lengths t.v.lengths) _ (both_right (t.o.base == t.v.base) _ t.same)) in
+    let base : (t.o.base == t.v.base) ≡ true = both_left (t.o.base == t.v.base) (same_lists t.o.lengths t.v.lengths && same_lists (elements t.o) (elements t.v)) t.same in
+    let places : elements t.o ≡ elements t.v = same_from_test (elements t.o) (elements t.v) (both_right (same_lists t.o.lengths t.v.lengths) (same_lists (elements t.o) (elements t.v)) (both_right (t.o.base == t.v.base) (same_lists t.o.lengths t.v.lengths && same_lists (elements t.o) (elements t.v)) t.same)) in
     let makes : op.makes ≡ false = input_apart op op.out t.o t.v op.makes t.out t.first
     (both_right (list_all (λ o. not (repeated (elements o))) (outputs op)) _ (both_right (list_all is_view (views op)) _ (both_right (kind_kept op) _ well))) base in
     let holds : AllByRecursion (λ (v : Strided). CellFits op.from (n.bases v.base)) (inputs op) = held m front back op formed fit in
@@ -99,11 +104,8 @@ copies_kept m front back op formed fit e =
     eager-append m front (op ∷ back)
     ∙ ap (λ k. eager k back) (copy_to_itself n op t.o t.v code t.out t.first t.second p.no_slot p.no_free makes b places cell)
     ∙ sym (eager-append m front back)
-  where
-    at_first : (P : Strided → Type 0) (op : Op) (v : Strided) → op.first ≡ Some (Array v) → AllByRecursion P (inputs op) → P v
-    at_first P op v e h = (subst (λ f. AllByRecursion P (view_of f ++ view_of op.second)) e h).0
 
--- ---- 10
+-- ---- a base that nothing uses
 
 pub record Bare (op : Op) : Type 0 where
   pub no_slot : op.slot ≡ None
@@ -114,7 +116,7 @@ axis_bare op after h =
     let a = both_right (is_none op.second) _ (both_right (is_array op.first) _ (both_right (is_some op.out) _ h)) in
     record { no_slot = none_from op.slot (both_left (is_none op.slot) _ a); no_free = none_from op.frees (both_left (is_none op.frees) _ (both_right (is_none op.slot) _ a)) }
 
-elementwise_bare : (op : Op) → elementwise op ≡ true → Bare op
+pub elementwise_bare : (op : Op) → elementwise op ≡ true → Bare op
 elementwise_bare op h =
     let a = both_right (is_none op.axis) _ (both_left (plain op) _ h) in
     record { no_slot = none_from op.slot (both_left (is_none op.slot) _ a); no_free = none_from op.frees (both_right (is_none op.slot) _ a) }

@@ -21,5 +21,12 @@ pub mod KeptFixed
 pub mod NextKeeps
 pub mod Parts
 pub mod Sources
+pub mod Changed
+pub mod Turns
+pub mod TurnsOne
+pub mod TurnsTwo
+pub mod Removals
+pub mod NextFollows
+pub mod Laws
 pub mod Folding
 pub mod Joining

@@ -1,5 +1,5 @@
 -- Each application lowers the potential.
-use Rattle.std.proofs.Common.{◌≡◌, ◌≢◌, ℕ, ◌+◌, ◌*◌, ◌<◌, ◌≤◌, suc, zero, ℤ, List, [], ◌∷◌, ◌++◌, Bool, true, false, cond, not, ◌||◌, ◌&&◌, refl, ap, ap₂, sym, subst, ◌∙◌, arith, length}
+use Rattle.std.proofs.Common.{◌≡◌, ℕ, ◌+◌, ◌*◌, ◌<◌, ◌≤◌, suc, zero, ℤ, List, [], ◌∷◌, ◌++◌, Bool, true, false, cond, not, refl, ap, ap₂, sym, subst, ◌∙◌, arith, length}
 use Rattle.std.proofs.Math.Nat.{mul-le-mul_left}
 use Rattle.std.proofs.lemmas.Bool.{false≢true}
 use Rattle.std.specs.Prelude.{◌==◌}
@@ -13,6 +13,8 @@ use Rattle.arr_rewrite.specs.NextRewrite.{frees_base, unfreed}
 use Rattle.arr_num.specs.declared.code.Code.{Code}
 use Rattle.arr_num.specs.declared.code.Code.TheVariants.{Identity, Power, Subtract}
 use Rattle.arr_ops.specs.declared.op.Op.{Op}
+use Rattle.arr_rewrite.proofs.Parts.{all_true, not_is}
+use Rattle.arr_ops.proofs.Pairs.{All_weaker}
 
 -- ---- the place of a creator
 
@@ -64,7 +66,7 @@ maker_removed b op e (f ∷ front) back =
 
 -- ---- sums
 
-total-append : {X : Type 0} (w : X → ℕ) (xs ys : List X) → total w (xs ++ ys) ≡ total w xs + total w ys
+pub total-append : {X : Type 0} (w : X → ℕ) (xs ys : List X) → total w (xs ++ ys) ≡ total w xs + total w ys
 total-append w [] ys = omega arith
 total-append w (x ∷ xs) ys = ap (λ k. w x + k) (total-append w xs ys) ∙ (let e : w x + (total w xs + total w ys) ≡ w x + total w xs + total w ys = omega arith in e)
 
@@ -98,7 +100,7 @@ worth_two Power e = omega arith
 worth_two Subtract e = omega arith
 worth_two _ e = omega arith
 
-worth_of : (code : Code) (k : ℕ) → k ≤ operand_worth code * k
+pub worth_of : (code : Code) (k : ℕ) → k ≤ operand_worth code * k
 worth_of code k =
     let a : 1 ≤ operand_worth code = worth_one code in
     let b : k * 1 ≤ k * operand_worth code = mul-le-mul_left k a in
@@ -141,17 +143,13 @@ op_worth_less p q f h =
     more [] h = tt
     more (v ∷ vs) h = (let a : p v.base ≤ q v.base = h.0 in omega arith, more vs h.1)
 
-some_worth : (code : Code) → 1 ≤ code_worth code
+pub some_worth : (code : Code) → 1 ≤ code_worth code
 some_worth Identity = omega arith
 some_worth Power = omega arith
 some_worth Subtract = omega arith
 some_worth _ = omega arith
 
-all_true : {X : Type 0} (P : X → Type 0) → ((x : X) → P x) → (xs : List X) → AllByRecursion P xs
-all_true P h [] = tt
-all_true P h (x ∷ xs) = (h x, all_true P h xs)
-
--- 9
+-- an operation is taken away
 pub removed_falls : (front back : List Op) (op : Op) → ((b : ℕ) → makes_base op b ≡ false) → potential (front ++ back) < potential (front ++ op ∷ back)
 removed_falls front back op none =
     let p : ℕ → ℕ = maker_place (front ++ back) in
@@ -164,7 +162,7 @@ removed_falls front back op none =
     let d : 1 ≤ code_worth op.code = some_worth op.code in
     omega arith
 
--- 10: `gone` is the base that is made
+-- an operation is taken away, with each that frees the base b
 filtered_less : {X : Type 0} (v w : X → ℕ) (keep : X → Bool) (xs : List X) → AllByRecursion (λ x. keep x ≡ true → v x ≤ w x) xs → total v (filter keep xs) ≤ total w xs
 filtered_less v w keep [] h = omega arith
 filtered_less v w keep (x ∷ xs) h =
@@ -206,26 +204,18 @@ unused_falls b front back op only before behind =
     let q : ℕ → ℕ = maker_place (front ++ op ∷ back) in
     let less : (v : Strided) → (v.base == b) ≡ false → p v.base ≤ q v.base = λ v e.
     let x : maker_place (front ++ unfreed back b) v.base ≤ maker_place (front ++ back) v.base =
-    maker_after v.base front (unfreed back b) back (maker_filtered v.base b back (weaker (λ f. (frees_base f b ≡ true → (c : ℕ) → makes_base f c ≡ false) × (frees_base f b ≡ false → AllByRecursion (λ (v : Strided). (v.base == b) ≡ false) (inputs f)))
+    maker_after v.base front (unfreed back b) back (maker_filtered v.base b back (All_weaker (λ f. (frees_base f b ≡ true → (c : ℕ) → makes_base f c ≡ false) × (frees_base f b ≡ false → AllByRecursion (λ (v : Strided). (v.base == b) ≡ false) (inputs f)))
     (λ f. frees_base f b ≡ true → makes_base f v.base ≡ false) (λ f g t. g.0 t v.base) back behind)) in
     let y : maker_place (front ++ back) v.base ≤ maker_place (front ++ op ∷ back) v.base = maker_removed v.base op (only v.base e) front back in omega arith in
     let one : (f : Op) → AllByRecursion (λ (v : Strided). (v.base == b) ≡ false) (inputs f) → op_worth p f ≤ op_worth q f =
-    λ f h. op_worth_less p q f (weaker (λ (v : Strided). (v.base == b) ≡ false) (λ (v : Strided). p v.base ≤ q v.base) less (inputs f) h) in
+    λ f h. op_worth_less p q f (All_weaker (λ (v : Strided). (v.base == b) ≡ false) (λ (v : Strided). p v.base ≤ q v.base) less (inputs f) h) in
     let a1 : total (op_worth p) front ≤ total (op_worth q) front =
-    total_less (op_worth p) (op_worth q) front (weaker (λ f. AllByRecursion (λ (v : Strided). (v.base == b) ≡ false) (inputs f)) (λ f. op_worth p f ≤ op_worth q f) one front before) in
+    total_less (op_worth p) (op_worth q) front (All_weaker (λ f. AllByRecursion (λ (v : Strided). (v.base == b) ≡ false) (inputs f)) (λ f. op_worth p f ≤ op_worth q f) one front before) in
     let a2 : total (op_worth p) (unfreed back b) ≤ total (op_worth q) back =
     filtered_less (op_worth p) (op_worth q) (λ f. not (frees_base f b)) back
-    (weaker (λ f. (frees_base f b ≡ true → (c : ℕ) → makes_base f c ≡ false) × (frees_base f b ≡ false → AllByRecursion (λ (v : Strided). (v.base == b) ≡ false) (inputs f)))
-    (λ f. not (frees_base f b) ≡ true → op_worth p f ≤ op_worth q f) (λ f g t. one f (g.1 (turned (frees_base f b) t))) back behind) in
+    (All_weaker (λ f. (frees_base f b ≡ true → (c : ℕ) → makes_base f c ≡ false) × (frees_base f b ≡ false → AllByRecursion (λ (v : Strided). (v.base == b) ≡ false) (inputs f)))
+    (λ f. not (frees_base f b) ≡ true → op_worth p f ≤ op_worth q f) (λ f g t. one f (g.1 (not_is (frees_base f b) t))) back behind) in
     let b1 : total (op_worth p) (front ++ unfreed back b) ≡ total (op_worth p) front + total (op_worth p) (unfreed back b) = total-append (op_worth p) front (unfreed back b) in
     let c : total (op_worth q) (front ++ op ∷ back) ≡ total (op_worth q) front + (op_worth q op + total (op_worth q) back) = total-append (op_worth q) front (op ∷ back) in
     let d : 1 ≤ code_worth op.code = some_worth op.code in
     omega arith
-  where
-    turned : (t : Bool) → not t ≡ true → t ≡ false
-    turned true h = absurd (false≢true h)
-    turned false h = refl
-
-    weaker : {X : Type 0} (P Q : X → Type 0) → ((x : X) → P x → Q x) → (xs : List X) → AllByRecursion P xs → AllByRecursion Q xs
-    weaker P Q f [] h = tt
-    weaker P Q f (x ∷ xs) h = (f x h.0, weaker P Q f xs h.1)

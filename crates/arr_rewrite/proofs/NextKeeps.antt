@@ -1,9 +1,8 @@
--- The next application keeps the memory, where the rules on one operation do.
+-- The next application keeps the memory that a formed list leaves.
 use Rattle.std.proofs.Common.{◌≡◌, List, [], ◌∷◌, ◌++◌, true, refl, ap, sym, subst, ◌∙◌, Option, Some, None, append_assoc}
 use Rattle.arr_view.specs.Strided.{Strided}
 use Rattle.arr_ops.specs.Memory.{Memory, eager}
 use Rattle.arr_ops.specs.Fits.{fits}
-use Rattle.std.specs.Option.{option_or}
 use Rattle.std.specs.Bool.{then_some}
 use Rattle.arr_rewrite.specs.Rules.{constant_folded, neutral_dropped, fixed_known, power_unrolled, subtraction_turned, copies_itself}
 use Rattle.arr_rewrite.specs.NextRewrite.{constant_carried, copy_carried, constants_joined, replacement, replaced, unused, rewrite_at, rewrite_from, next_rewrite}

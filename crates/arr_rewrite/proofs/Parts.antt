@@ -1,15 +1,16 @@
 -- Lists taken apart and put together, and tests on them.
-use Rattle.std.proofs.Common.{◌≡◌, ℕ, List, [], ◌∷◌, ◌++◌, Bool, true, false, cond, not, ◌||◌, ◌&&◌, refl, ap, ap₂, sym, ◌∙◌, Option, Some, None, map}
+use Rattle.std.proofs.Common.{◌≡◌, ℕ, List, [], ◌∷◌, ◌++◌, Bool, true, false, not, ◌||◌, refl, ap₂, sym, ◌∙◌, map, subst, Some}
 use Rattle.std.proofs.lemmas.Bool.{false≢true, eqb-true, eq-eqb}
 use Rattle.std.specs.Prelude.{◌==◌, nat_eq}
-use Rattle.std.specs.List.{AllByRecursion, list_all, list_any, filter}
-use Rattle.arr_view.specs.Strided.{Strided}
+use Rattle.std.specs.List.{AllByRecursion}
 use Rattle.arr_view.specs.Views.{has}
-use Rattle.arr_ops.specs.declared.op.Op.{Op}
-use Rattle.arr_ops.proofs.Pairs.{Pairs, All_weaker}
-use Rattle.arr_ops.proofs.Tests.{all_of, test_all}
-use Rattle.arr_ops.proofs.Spots.{all_two}
+use Rattle.arr_ops.proofs.Pairs.{Pairs}
+use Rattle.arr_ops.proofs.Spots.{all_two, all_right}
 use Rattle.arr_ops.proofs.Writes.{or_left, or_right}
+use Rattle.arr_ops.specs.Ops.{inputs, view_of}
+use Rattle.arr_ops.specs.declared.op.Op.{Op}
+use Rattle.arr_ops.specs.declared.op.Operand.TheVariants.{Array}
+use Rattle.arr_view.specs.Strided.{Strided}
 
 -- v is one of these
 abbrev pub Among : {X : Type 0} → List X → X → Type 1
@@ -49,13 +50,6 @@ pub not_is : (y : Bool) → not y ≡ true → y ≡ false
 not_is true h = absurd (false≢true h)
 not_is false h = refl
 
-pub weaker_or : (t a b : Bool) → (a ≡ true → b ≡ true) → (not t || a) ≡ true → (not t || b) ≡ true
-weaker_or true a b f h = f h
-weaker_or false a b f h = refl
-
-pub list_weaker : {X : Type 0} (p q : X → Bool) → ((x : X) → p x ≡ true → q x ≡ true) → (xs : List X) → list_all p xs ≡ true → list_all q xs ≡ true
-list_weaker p q f xs h = test_all q xs (All_weaker (λ x. p x ≡ true) (λ x. q x ≡ true) f xs (all_of p xs h))
-
 pub none_of : (b : ℕ) (xs : List ℕ) → has xs b ≡ false → AllByRecursion (λ x. nat_eq b x ≡ false) xs
 none_of b [] h = tt
 none_of b (x ∷ xs) h = (or_left (nat_eq b x) (has xs b) h, none_of b xs (or_right (nat_eq b x) (has xs b) h))
@@ -66,3 +60,15 @@ of_none b (x ∷ xs) h = ap₂ (λ p q. p || q) h.0 (of_none b xs h.1)
 
 pub equal_turned : (a b : ℕ) → (a == b) ≡ false → (b == a) ≡ false
 equal_turned a b h = elim (b == a) as (λ t. (b == a) ≡ t → t ≡ false) [ true ↦ λ e. absurd (false≢true (sym h ∙ eq-eqb a b (sym (eqb-true b a e)))) | false ↦ λ e. refl ] refl
+
+pub one : (b : Bool) → (b || false) ≡ true → b ≡ true
+one true h = refl
+one false h = h
+
+-- ---- the operands of an operation
+
+pub at_first : (P : Strided → Type 0) (op : Op) (v : Strided) → op.first ≡ Some (Array v) → AllByRecursion P (inputs op) → P v
+at_first P op v e h = (subst (λ f. AllByRecursion P (view_of f ++ view_of op.second)) e h).0
+
+pub at_second : (P : Strided → Type 0) (op : Op) (v : Strided) → op.second ≡ Some (Array v) → AllByRecursion P (inputs op) → P v
+at_second P op v e h = (subst (λ f. AllByRecursion P (view_of f)) e (all_right P (view_of op.first) (view_of op.second) h)).0

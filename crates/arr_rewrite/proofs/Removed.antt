@@ -1,5 +1,5 @@
 -- Rules that remove operations keep the memory.
-use Rattle.std.proofs.Common.{◌≡◌, ◌≢◌, ℕ, ◌+◌, suc, zero, ℤ, pos, List, [], ◌∷◌, ◌++◌, true, false, cond, not, ◌||◌, ◌&&◌, refl, ap, ap₂, sym, subst, ◌∙◌, Option, Some, None, map, get_or, set, replicate}
+use Rattle.std.proofs.Common.{◌≡◌, ℕ, suc, zero, ℤ, pos, List, [], ◌∷◌, ◌++◌, true, false, cond, not, ◌||◌, refl, ap, ap₂, sym, subst, ◌∙◌, Option, Some, None, map, get_or, set, replicate}
 use Rattle.std.proofs.lemmas.Bool.{false≢true, eqb-true}
 use Rattle.std.specs.Prelude.{◌==◌}
 use Rattle.std.specs.List.{AllByRecursion, list_any}
@@ -23,7 +23,7 @@ use Rattle.arr_rewrite.proofs.Replace.{computed_scalar, walk_length}
 use Rattle.arr_rewrite.proofs.Agree.{eager-append, computed_alike, Unnamed, change_keeps}
 use Rattle.arr_ops.proofs.Pairs.{All_weaker}
 
--- ---- 9: a copy of a view to itself
+-- ---- a copy of a view to itself
 
 set_get : (ns : List ℤ) (p : ℕ) → set ns p (get_or ns p (pos 0)) ≡ ns
 set_get [] p = refl
@@ -65,7 +65,7 @@ copy_to_itself m op o v code out first second slot frees makes base same fits =
     at_cell n None h = refl
     at_cell n (Some c) h = λ i. Some (record { elem = c.elem; numbers = write_back op.to (elements o) c.numbers n h.1 i })
 
--- ---- 10: a base that nobody uses
+-- ---- a base that nobody uses
 
 abbrev pub without : ℕ → Memory → Memory
 without b m = record { bases = λ c. cond (c == b) None (m.bases c); slots = m.slots }

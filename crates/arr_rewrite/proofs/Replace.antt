@@ -1,20 +1,18 @@
--- Rules that look at one operation keep what it does.
-use Rattle.std.proofs.Common.{◌≡◌, ◌≢◌, ℕ, ◌+◌, suc, zero, ℤ, pos, List, [], ◌∷◌, ◌++◌, Bool, true, false, ◌||◌, ◌&&◌, refl, ap, ap₂, sym, ◌∙◌, Option, Some, None, replicate}
+-- Operations with the same results make the same step.
+use Rattle.std.proofs.Common.{◌≡◌, ℕ, suc, zero, ℤ, pos, List, [], ◌∷◌, ◌++◌, true, ◌||◌, refl, ap, ap₂, sym, ◌∙◌, Option, Some, None, replicate}
 use Rattle.std.proofs.lemmas.Bool.{false≢true}
-use Rattle.std.specs.Prelude.{◌==◌}
 use Rattle.std.specs.List.{AllByRecursion}
 use Rattle.arr_view.specs.Strided.{Strided}
 use Rattle.arr_view.specs.Views.{elements, positions}
-use Rattle.arr_ops.specs.Ops.{inputs, view_of}
+use Rattle.arr_ops.specs.Ops.{view_of}
 use Rattle.arr_num.specs.Kinds.{binds_two, binds_one, Kind, Binary, Unary, kind}
 use Rattle.arr_num.specs.Numbers.{in_type, value}
 use Rattle.arr_ops.specs.Memory.{Memory, Slot, changed, change, slot_after, read, put, computed, step, results, results_of, zip_with, lengths_of, out_lengths, or_zero, first_numbers, operand}
-use Rattle.std.specs.Bool.{then_some}
 use Rattle.arr_rewrite.specs.Rules.{is_scalar as scalar_code, changed_op, copy_op, neutral_right, neutral_left, neutral_beside}
 use Rattle.arr_ops.proofs.Spots.{is_scalar}
 use Rattle.arr_num.specs.declared.elem.Elem.{Elem}
 use Rattle.arr_num.specs.declared.code.Code.{Code}
-use Rattle.arr_num.specs.declared.code.Code.TheVariants.{Add, Subtract, Multiply, Divide, Maximum, Minimum, BitwiseAnd, BitwiseOr, BitwiseXor, LeftShift, RightShift, Identity, Range}
+use Rattle.arr_num.specs.declared.code.Code.TheVariants.{Identity, Range}
 use Rattle.arr_ops.specs.declared.op.Op.{Op}
 use Rattle.arr_ops.specs.declared.op.Operand.{Operand}
 use Rattle.arr_ops.specs.declared.op.Operand.TheVariants.{Array, Number}
@@ -68,7 +66,7 @@ computed_scalar m op h =
     ap (λ xs. results op.code op.to (lengths_of op.first) (or_zero op.axis) xs (operand m (walk_length op) op.second)) (first_operand op.code m (walk_length op) op.first h)
     ∙ results_zip op.code op.to (lengths_of op.first) (or_zero op.axis) _ _ h
 
--- ---- 2
+-- ---- a constant that changes nothing
 
 zip_right : (t : Elem) (f : ℤ → ℤ → ℤ) (c : ℤ) → ((x : ℤ) → in_type t x ≡ true → f x c ≡ x) → (xs : List ℤ) (n : ℕ) → AllIn t xs
     → zip_with f xs (replicate n c) ≡ zip_with (value Identity t) xs (replicate n (pos 0))

@@ -1,15 +1,15 @@
 -- The numbers of a type, and the constants of the rules.
-use Rattle.std.proofs.Common.{◌≡◌, ◌≢◌, ℕ, ◌+◌, ◌-◌, ◌*◌, ◌^◌, ◌%◌, ◌/◌, ◌≤◌, ◌<◌, suc, ℤ, pos, negsuc, true, false, cond, ◌||◌, refl, ap, ap₂, sym, ◌∙◌, arith}
-use Rattle.std.proofs.lemmas.Bool.{false≢true, eqb-true, ltb-true, ltb-false, lt-ltb, leb-true}
+use Rattle.std.proofs.Common.{◌≡◌, ℕ, ◌-◌, ◌^◌, ◌%◌, ◌/◌, ◌≤◌, ◌<◌, suc, ℤ, pos, negsuc, true, refl, ap, ap₂, sym, ◌∙◌, arith}
+use Rattle.std.proofs.lemmas.Bool.{false≢true, eqb-true, ltb-true}
 use Rattle.std.proofs.lemmas.Int.{ints, clamps}
-use Rattle.std.proofs.Math.Nat.{mod-eq_of_lt, mod-lt}
+use Rattle.std.proofs.Math.Nat.{mod-eq_of_lt}
 use Rattle.std.proofs.lemmas.Nat.{and_mask}
 use Rattle.std.specs.Int.Bits.{or_zero_r, xor_zero_r, and_comm, or_comm, xor_comm}
 use Rattle.std.proofs.lemmas.Nat.Bits.{same_from_bits, bit_at_or}
-use Rattle.std.specs.Prelude.{◌≤ℤ◌, nat_lt, ◌==◌, ◌+ℤ◌, ◌-ℤ◌, ◌*ℤ◌, bit_and, bit_or, bit_xor}
+use Rattle.std.specs.Prelude.{◌≤ℤ◌, ◌+ℤ◌, ◌-ℤ◌, ◌*ℤ◌, bit_and, bit_or, bit_xor}
 use Rattle.std.specs.Int.{int_max, int_min, int_shr}
 use Rattle.arr_rewrite.specs.Rules.{neutral_right, neutral_left}
-use Rattle.arr_num.specs.Numbers.{bits, size, upper, in_type, digits, from_digits, wrap, same, ones, least, greatest, shift, whole, value}
+use Rattle.arr_num.specs.Numbers.{bits, size, upper, in_type, digits, wrap, ones, least, greatest, shift, whole, value}
 use Rattle.arr_num.proofs.Wrapping.{size_more, digits_below, digits_wrap, wrap_by_digits, wrap_same, same_is}
 use Rattle.arr_num.specs.declared.elem.Elem.{Elem}
 use Rattle.arr_num.specs.declared.elem.Elem.TheVariants.{U8, I32, I64, U64}

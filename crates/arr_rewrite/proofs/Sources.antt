@@ -1,5 +1,5 @@
 -- What holds of a view that an operation reads, at its place in a formed list.
-use Rattle.std.proofs.Common.{◌≡◌, ℕ, List, [], ◌∷◌, ◌++◌, Bool, true, false, not, ◌||◌, ◌&&◌, refl, ap, ap₂, sym, subst, ◌∙◌, Option, Some, None, map, append_assoc}
+use Rattle.std.proofs.Common.{◌≡◌, ℕ, List, [], ◌∷◌, ◌++◌, Bool, true, false, not, ◌||◌, ◌&&◌, refl, ap, sym, subst, ◌∙◌, Option, Some, None, map, append_assoc}
 use Rattle.std.proofs.lemmas.Bool.{false≢true, eqb-true, eq-eqb}
 use Rattle.std.specs.Prelude.{◌==◌, nat_lt, is_some}
 use Rattle.std.specs.List.{AllByRecursion, list_all, list_any}
@@ -8,16 +8,16 @@ use Rattle.arr_num.specs.declared.elem.Elem.{Elem}
 use Rattle.arr_view.specs.Strided.{Strided}
 use Rattle.arr_view.specs.Views.{elements, positions, has, is_view, overlap}
 use Rattle.arr_ops.specs.Ops.{inputs, outputs, views, freed, named, makes_base, creates}
-use Rattle.arr_ops.specs.Memory.{Memory, Cell}
+use Rattle.arr_ops.specs.Memory.{Memory}
 use Rattle.arr_ops.specs.Formed.{inside_made, same_types, same_elem, typed, may_precede, well_formed, kind_kept, writes_once, makes_whole, is_whole}
 use Rattle.arr_ops.specs.Fits.{Need, needs, meets_need, fits, op_fits}
 use Rattle.arr_ops.specs.declared.op.Op.{Op}
 use Rattle.arr_ops.proofs.Pairs.{All_weaker}
-use Rattle.arr_ops.proofs.Tests.{both_left, both_right, all_of, or_cases}
-use Rattle.arr_ops.proofs.Writes.{or_left, or_right}
+use Rattle.arr_ops.proofs.Tests.{both_left, both_right, all_of}
+use Rattle.arr_ops.proofs.Writes.{or_right}
 use Rattle.arr_ops.proofs.Spots.{Formed, all_left, all_right, all_mapped, pairs_before, pairs_after, same_elem_is, views_of, well_at}
 use Rattle.arr_rewrite.specs.Writers.{unspoiled, spoils}
-use Rattle.arr_rewrite.proofs.Parts.{Among, all_among, all_join, turned, not_is, equal_turned}
+use Rattle.arr_rewrite.proofs.Parts.{Among, all_among, all_join, not_is, equal_turned}
 use Rattle.arr_rewrite.proofs.KeptHistory.{inputs_named, unfreed_base}
 
 -- the elements of v lie inside the base of o
