@@ -30,3 +30,4 @@ pub mod NextFollows
 pub mod Laws
 pub mod Folding
 pub mod Joining
+pub mod Places

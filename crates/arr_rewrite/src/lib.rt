@@ -1,6 +1,7 @@
 //! Rewriting: a recorded list becomes a shorter or cheaper one that leaves the same memory.
 #![tactic(auto)]
 
+mod applied;
 mod carried;
 mod joined;
 mod replaced;
@@ -8,6 +9,8 @@ mod rules;
 mod tables;
 mod unused;
 mod writers;
+
+pub use applied::rewrite;
 
 /// Want of memory.
 pub use std::alloc::AllocError as NoMemory;

@@ -1,5 +1,5 @@
 //! Bases that nothing uses.
-ghost use Rattle.std.specs.Prelude.{◌≡◌, ◌&&◌, ◌||◌, ◌++◌, not, map};
+ghost use Rattle.std.specs.Prelude.{◌≡◌, ◌&&◌, ◌||◌, ◌++◌, IfSome, true, not, map};
 ghost use Rattle.std.specs.Option.{option_map, option_to_list};
 ghost use Rattle.std.specs.List.{list_all, list_any};
 ghost use Rattle.arr_view.specs.Views.{has};
@@ -92,7 +92,8 @@ pub(crate) fn remove_frees(list: &mut Vec<Op>, base: u32)
 
 /// The base of a creator that nothing uses.
 pub(crate) fn unused_base(front: &[Op], op: &Op, back: &[Op]) -> Option<u32>
-    ensures { unused front.now op.now back.now op.now.out ≡ option_map (λ b. front.now ++ unfreed back.now b) result }
+    ensures left { unused front.now op.now back.now op.now.out ≡ option_map (λ b. front.now ++ unfreed back.now b) result }
+    ensures unnamed { IfSome result (λ b. list_all (λ f. not (has (named f) b)) front.now ≡ true) }
 {
     match &op.out {
         Some(out) => {

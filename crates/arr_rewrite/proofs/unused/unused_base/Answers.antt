@@ -6,6 +6,7 @@ use Rattle.arr_view.specs.Views.{has}
 use Rattle.arr_ops.specs.Ops.{named}
 use Rattle.arr_ops.specs.declared.op.Op.{Op}
 use Rattle.arr_rewrite.specs.NextRewrite.{unused, unfreed, only_freed}
+use Rattle.arr_ops.proofs.Tests.{both_left, both_right}
 use Rattle.arr_rewrite.proofs.unused.unused_base.Goals as goal
 
 at_base : (front back : List Op) (op : Op) (out : Option Strided) (o : Strided) (b : ℕ) (t : Bool) → out ≡ Some o → b ≡ o.base → t ≡ (op.makes && (list_all (λ f. not (has (named f) b)) front && only_freed back b))
@@ -15,10 +16,14 @@ at_base front back op out o b t e same h =
     ∙ ap (λ n. then_some (op.makes && (list_all (λ f. not (has (named f) n)) front && only_freed back n)) (front ++ unfreed back n)) (sym same)
     ∙ ap (λ k. then_some k (front ++ unfreed back b)) (sym h)
 
-pub returns-then-is_unused : goal.returns-then-is_unused
-returns-then-is_unused c =
+pub returns-then-is_unused-clause-left : goal.returns-then-is_unused-clause-left
+returns-then-is_unused-clause-left c =
     at_base c.args.front.now c.args.back.now c.args.op.now c.args.op.now.out c.in-Some.out c.base-base.result true c.in-Some.is c.base-base.ensures.value (sym c.if-is_unused.true ∙ c.is_unused.ensures)
 
-pub returns-else-is_unused : goal.returns-else-is_unused
-returns-else-is_unused c =
+pub returns-else-is_unused-clause-left : goal.returns-else-is_unused-clause-left
+returns-else-is_unused-clause-left c =
     at_base c.args.front.now c.args.back.now c.args.op.now c.args.op.now.out c.in-Some.out c.base-base.result false c.in-Some.is c.base-base.ensures.value (sym c.if-is_unused.false ∙ c.is_unused.ensures)
+
+pub returns-then-is_unused-clause-unnamed : goal.returns-then-is_unused-clause-unnamed
+returns-then-is_unused-clause-unnamed c =
+    both_left (list_all (λ f. not (has (named f) c.base-base.result)) c.args.front.now) _ (both_right c.args.op.now.makes _ (sym c.is_unused.ensures ∙ c.if-is_unused.true))
