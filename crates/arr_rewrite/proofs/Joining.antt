@@ -21,6 +21,8 @@ use Rattle.arr_rewrite.specs.Writers.{Writer, only_writer, writes_base}
 use Rattle.arr_rewrite.specs.NextRewrite.{Beside, beside, regroups, same_code}
 use Rattle.arr_rewrite.proofs.Folding.{numbers_of_op}
 use Rattle.arr_rewrite.proofs.KeptHistory.{Found, found_before}
+use Rattle.arr_rewrite.proofs.KeptConstants.{written_out}
+use Rattle.arr_rewrite.proofs.KeptJoins.{beside_input}
 
 -- an operation of a formed list is well formed
 pub well_in : (front back : List Op) (op : Op) → is_formed (front ++ op ∷ back) ≡ true → well_formed op ≡ true
@@ -65,31 +67,11 @@ beside_in t (Some (Array x)) None y f s e = absurd (cc)
 beside_in t (Some (Number x)) None y f s e = absurd (cc)
 beside_in t None second y f s e = absurd (cc)
 
-beside_reads : (P : Strided → Type 0) (first second : Option Operand) (y : Beside) → beside first second ≡ Some y → AllByRecursion P (view_of first ++ view_of second) → P y.view
-beside_reads P (Some (Array x)) (Some (Number c)) y e h =
-    let same : record { view = x; number = c } ≡ y = cc in subst (λ (b : Beside). P b.view) same h.0
-beside_reads P (Some (Number c)) (Some (Array x)) y e h =
-    let same : record { view = x; number = c } ≡ y = cc in subst (λ (b : Beside). P b.view) same h.0
-beside_reads P (Some (Array x)) (Some (Array z)) y e h = absurd (cc)
-beside_reads P (Some (Number x)) (Some (Number z)) y e h = absurd (cc)
-beside_reads P (Some (Array x)) None y e h = absurd (cc)
-beside_reads P (Some (Number x)) None y e h = absurd (cc)
-beside_reads P None second y e h = absurd (cc)
-
 numbers_in : (op : Op) (y : Beside) → well_formed op ≡ true → regroups op.code ≡ true → beside op.first op.second ≡ Some y → in_type op.to y.number ≡ true
 numbers_in op y h r e =
     let j : Joinable op.code = joinable op.code r in
     subst (λ t. in_type t y.number ≡ true) (sym (j.types op (types_of op h)))
     (beside_in op.from op.first op.second y (j.first op (numbers_of_op op h)) (j.second op (numbers_of_op op h)) e)
-
--- the output in the base
-output_in : (b : ℕ) (out : Option Strided) → list_any (λ (o : Strided). o.base == b) (option_to_list out) ≡ true → (o : Strided) × (out ≡ Some o) × (o.base ≡ b)
-output_in b None h = absurd (false≢true h)
-output_in b (Some o) h = (o, refl, eqb-true o.base b (one (o.base == b) h))
-  where
-    one : (t : Bool) → (t || false) ≡ true → t ≡ true
-    one true h = refl
-    one false h = h
 
 pub read_in : (front back : List Op) (op : Op) (x : Beside) → is_formed (front ++ op ∷ back) ≡ true → regroups op.code ≡ true → beside op.first op.second ≡ Some x → in_type op.to x.number ≡ true
 read_in front back op x h r e = numbers_in op x (well_in front back op h) r e
@@ -104,9 +86,9 @@ source_in front back op x w y h r e d c g =
     (all_right (λ g. same_types w.op g ≡ true) (f.pre ++ w.op ∷ w.between) (op ∷ back)
     (all_right (λ f'. AllByRecursion (λ g. same_types f' g ≡ true) ((f.pre ++ w.op ∷ w.between) ++ op ∷ back)) f.pre (w.op ∷ w.between)
     (all_left (λ f'. AllByRecursion (λ g. same_types f' g ≡ true) ((f.pre ++ w.op ∷ w.between) ++ op ∷ back)) (f.pre ++ w.op ∷ w.between) (op ∷ back) formed.types)).0).0 in
-    let o = output_in x.view.base w.op.out f.writes in
+    let o = written_out w.op x.view.base w.op.out refl f.writes in
     let to : w.op.to ≡ op.from =
-    beside_reads (λ (u : Strided). (o.0.base == u.base) ≡ true → w.op.to ≡ op.from) op.first op.second x e (writes_typed w.op op types o.0 o.1) (eq-eqb o.0.base x.view.base o.2) in
+    beside_input (λ (u : Strided). (o.0.base == u.base) ≡ true → w.op.to ≡ op.from) op.first op.second x e (writes_typed w.op op types o.0 o.1) (eq-eqb o.0.base x.view.base o.2) in
     let j : Joinable op.code = joinable op.code r in
     subst (λ t. in_type t y.number ≡ true) (to ∙ sym (j.types op (types_of op (well_in front back op h))))
     (numbers_in w.op y well (ap regroups (one_code op.code w.op.code c) ∙ r) g)

@@ -83,13 +83,13 @@ fn rewrite_once(alloc: Global, list: &mut Vec<Op>) -> Result<bool, NoMemory>
 }
 
 fn copied(alloc: Global, ops: &[Op]) -> Result<Vec<Op>, NoMemory>
-    ensures { IfOk result (λ list. list.items ≡ ops.now) }
+    ensures { IfOk result (λ copy. copy.items ≡ ops.now) }
 {
-    let mut list = Vec::with_capacity(alloc, ops.len())?;
+    let mut copy = Vec::with_capacity(alloc, ops.len())?;
     for op in ops {
-        list.push(op.copied())?;
+        copy.push(op.copied())?;
     }
-    Ok(list)
+    Ok(copy)
 }
 
 /// The normal form of a formed list: the application of least place, then of the earliest rule, then of the earlier operand is made

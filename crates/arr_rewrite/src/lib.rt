@@ -1,4 +1,17 @@
 //! Rewriting: a recorded list becomes a shorter or cheaper one that leaves the same memory.
+//!
+//! Ten rules look at an operation and at the list around it: constants are computed, dropped, carried to where they are read and joined;
+//! a copied view is read at its source; copies to themselves and bases that nothing uses are removed. The application of least place is
+//! made first, at one place that of the earliest rule, and then that of the earlier operand, until none is left.
+//!
+//! The promise: of a formed list, `rewrite` answers exactly the normal form (`normal_form`). No rule applies to it, it is formed, every
+//! memory that fits the list fits it, and from each of these it leaves what the list leaves. Want of memory is the one refusal: one copy
+//! of the list is taken, which each application changes in its place, and a row of bits where the overlap of two views asks for one.
+//!
+//! The definitions, in `specs/`: `Rules` (what an operation becomes, and the rules on one operation), `Writers` (who writes what an
+//! operation reads), `NextRewrite` (the rules on the list, and the application that comes next), `NormalForm` (the end, and a number
+//! that each application lowers), and `Examples`, computed. The code has a function for each definition, under its name.
+//! `docs/PLANS.md` states the same rules in words ("Rewriting").
 #![tactic(auto)]
 
 mod applied;
