@@ -1,5 +1,5 @@
 -- The constants of a well-formed operation: of which types they are, and that a value is the same in both of its types.
-use Rattle.std.proofs.Common.{◌≡◌, ℤ, pos, Bool, true, false, ◌||◌, ◌&&◌, refl, ap, sym, subst, ◌∙◌, Option, Some, None}
+use Rattle.std.proofs.Common.{◌≡◌, ℤ, Bool, true, false, ◌||◌, ◌&&◌, refl, ap, sym, subst, ◌∙◌, Option, Some, None}
 use Rattle.std.proofs.lemmas.Bool.{false≢true}
 use Rattle.std.specs.Prelude.{is_some, is_none, int_lt, not}
 use Rattle.std.specs.List.{list_all}
@@ -13,7 +13,7 @@ use Rattle.arr_num.proofs.Wrapping.{wrap_same}
 use Rattle.arr_ops.specs.Formed.{well_formed, operands_kept, types_kept, numbers_kept, numbers_of, elementwise, is_array}
 use Rattle.arr_ops.specs.declared.op.Op.{Op}
 use Rattle.arr_ops.specs.declared.op.Operand.{Operand}
-use Rattle.arr_ops.specs.declared.op.Operand.TheVariants.{Array, Number}
+use Rattle.arr_ops.specs.declared.op.Operand.TheVariants.{Number}
 use Rattle.arr_ops.proofs.Tests.{both_left, both_right}
 use Rattle.arr_ops.proofs.Spots.{operands_of, types_of, same_elem_is}
 use Rattle.arr_rewrite.specs.Rules.{is_identity}

@@ -1,23 +1,21 @@
 -- The two constants that are joined are of the type of the joined operation.
-use Rattle.std.proofs.Common.{◌≡◌, ℕ, ℤ, List, ◌∷◌, ◌++◌, Bool, true, false, ◌||◌, ◌&&◌, refl, ap, sym, subst, ◌∙◌, Option, Some, None}
-use Rattle.std.proofs.lemmas.Bool.{false≢true, eq-eqb, eqb-true}
+use Rattle.std.proofs.Common.{◌≡◌, ℤ, List, ◌∷◌, ◌++◌, true, refl, ap, sym, subst, ◌∙◌, Option, Some, None}
+use Rattle.std.proofs.lemmas.Bool.{false≢true, eq-eqb}
 use Rattle.std.specs.Prelude.{◌==◌}
-use Rattle.std.specs.List.{AllByRecursion, list_all, list_any}
-use Rattle.std.specs.Option.{option_to_list}
+use Rattle.std.specs.List.{AllByRecursion, list_all}
 use Rattle.arr_num.specs.Kinds.{is_binary}
 use Rattle.arr_num.specs.Numbers.{in_type, may_stand_right}
 use Rattle.arr_num.specs.declared.elem.Elem.{Elem}
 use Rattle.arr_num.specs.declared.code.Code.{Code}
 use Rattle.arr_num.specs.declared.code.Code.TheVariants.{Add, Multiply, BitwiseAnd, BitwiseOr, BitwiseXor}
 use Rattle.arr_view.specs.Strided.{Strided}
-use Rattle.arr_ops.specs.Ops.{inputs, outputs, view_of}
 use Rattle.arr_ops.specs.Formed.{is_formed, well_formed, types_kept, numbers_kept, numbers_of, same_types}
 use Rattle.arr_ops.specs.declared.op.Op.{Op}
 use Rattle.arr_ops.specs.declared.op.Operand.{Operand}
 use Rattle.arr_ops.specs.declared.op.Operand.TheVariants.{Array, Number}
 use Rattle.arr_ops.proofs.Tests.{both_left, both_right}
 use Rattle.arr_ops.proofs.Spots.{Formed, formed_of, well_at, types_of, same_elem_is, all_left, all_right, writes_typed}
-use Rattle.arr_rewrite.specs.Writers.{Writer, only_writer, writes_base}
+use Rattle.arr_rewrite.specs.Writers.{Writer, only_writer}
 use Rattle.arr_rewrite.specs.NextRewrite.{Beside, beside, regroups, same_code}
 use Rattle.arr_rewrite.proofs.Folding.{numbers_of_op}
 use Rattle.arr_rewrite.proofs.KeptHistory.{Found, found_before}

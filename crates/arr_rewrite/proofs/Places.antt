@@ -1,5 +1,5 @@
 -- An application at a place of a list.
-use Rattle.std.proofs.Common.{◌≡◌, ℕ, ◌+◌, ◌-◌, ◌<◌, zero, suc, List, [], ◌∷◌, ◌++◌, Bool, true, false, cond, not, ◌||◌, refl, ap, ap₂, sym, subst, ◌∙◌, arith, Option, Some, None, length, take, drop, get_or, set, append_assoc}
+use Rattle.std.proofs.Common.{◌≡◌, ℕ, ◌+◌, ◌-◌, ◌<◌, zero, suc, List, [], ◌∷◌, ◌++◌, Bool, true, false, cond, not, refl, ap, ap₂, sym, ◌∙◌, arith, Some, None, length, take, drop, get_or, set}
 use Rattle.std.proofs.lemmas.List.{take-append-drop, take-set, drop-set, take_more, drop_more, take_rest}
 use Rattle.std.proofs.lemmas.List.Elements.{filter-append}
 use Rattle.std.specs.Bool.{then_some}
@@ -7,12 +7,11 @@ use Rattle.std.specs.Option.{option_or}
 use Rattle.std.specs.List.{list_all}
 use Rattle.arr_view.specs.Views.{has}
 use Rattle.arr_ops.specs.Ops.{named}
-use Rattle.arr_ops.specs.Formed.{is_formed}
 use Rattle.arr_ops.specs.declared.op.Op.{Op}
 use Rattle.arr_ops.proofs.Tests.{both_left, both_right}
 use Rattle.arr_rewrite.specs.Rules.{copies_itself}
 use Rattle.arr_rewrite.specs.NextRewrite.{replacement, replaced, unused, unfreed, frees_base, rewrite_at, rewrite_from}
-use Rattle.arr_rewrite.proofs.Agree.{Unnamed, unnamed_test}
+use Rattle.arr_rewrite.proofs.Agree.{unnamed_test}
 use Rattle.arr_rewrite.proofs.Parts.{not_is}
 
 -- ---- the element at a place

@@ -1,9 +1,8 @@
-use Rattle.std.proofs.Common.{◌≡◌, ◌<◌, true, false, cond, ap, sym, subst, ◌∙◌, Some, None}
+use Rattle.std.proofs.Common.{◌≡◌, true, cond, ap, sym, subst, ◌∙◌, Some, None}
 use Rattle.arr_ops.specs.Memory.{eager}
 use Rattle.arr_ops.specs.Fits.{fits}
-use Rattle.arr_ops.specs.Formed.{is_formed}
 use Rattle.arr_rewrite.specs.NextRewrite.{next_rewrite}
-use Rattle.arr_rewrite.specs.NormalForm.{normal_form, potential}
+use Rattle.arr_rewrite.specs.NormalForm.{normal_form}
 use Rattle.arr_rewrite.proofs.Laws.{next_falls, next_formed, normal_step, normal_here, normal_fits, normal_keeps}
 use Rattle.arr_rewrite.proofs.applied.rewrite.Goals as goal
 

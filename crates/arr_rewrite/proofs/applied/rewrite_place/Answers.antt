@@ -1,6 +1,6 @@
-use Rattle.std.proofs.Common.{◌≡◌, ℕ, List, true, cond, ap, ◌∙◌, Some, None}
+use Rattle.std.proofs.Common.{List, cond, ap, ◌∙◌, Some, None}
 use Rattle.arr_ops.specs.declared.op.Op.{Op}
-use Rattle.arr_rewrite.proofs.Places.{Item, item_at, replaced_place, removed_place}
+use Rattle.arr_rewrite.proofs.Places.{Item, item_at, replaced_place}
 use Rattle.arr_rewrite.proofs.applied.rewrite_place.Goals as goal
 
 pub returns-then-branch-clause-next : goal.returns-then-branch-clause-next

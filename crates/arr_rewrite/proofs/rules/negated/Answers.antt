@@ -1,4 +1,4 @@
-use Rattle.std.proofs.Common.{ℤ, Some, ◌≡◌, true, pos, ◌-ℤ◌, ◌≤ℤ◌, ap, subst, sym, ◌∙◌, arith, FitsSigned, to_z, of_z}
+use Rattle.std.proofs.Common.{ℤ, Some, ◌≡◌, true, pos, ◌-ℤ◌, ap, subst, ◌∙◌, arith, FitsSigned, to_z, of_z}
 use Rattle.std.specs.Int.{w128}
 use Rattle.std.proofs.lemmas.Int.{ints}
 use Rattle.arr_num.specs.Numbers.{in_type, may_stand_right, wrap}
