@@ -1,5 +1,5 @@
 -- An application at a place of a list.
-use Rattle.std.proofs.Common.{◌≡◌, ℕ, ◌+◌, ◌-◌, ◌<◌, zero, suc, List, [], ◌∷◌, ◌++◌, Bool, true, false, cond, not, refl, ap, ap₂, sym, ◌∙◌, arith, Some, None, length, take, drop, get_or, set}
+use Rattle.std.proofs.Common.{◌≡◌, ℕ, ◌+◌, ◌-◌, ◌<◌, zero, suc, List, [], ◌∷◌, ◌++◌, true, false, cond, not, refl, ap, ap₂, sym, ◌∙◌, arith, Some, length, take, drop, get_or, set}
 use Rattle.std.proofs.lemmas.List.{take-append-drop, take-set, drop-set, take_more, drop_more, take_rest}
 use Rattle.std.proofs.lemmas.List.Elements.{filter-append}
 use Rattle.std.specs.Bool.{then_some}
@@ -22,9 +22,6 @@ same_item xs p x y h e f =
     let b : drop p xs ≡ get_or xs p y ∷ drop (p + 1) xs = drop_more xs p y h in
     let c : get_or xs p x ≡ get_or xs p y = cc in
     e ∙ c ∙ sym f
-
-pub around : {X : Type 0} (xs : List X) (p : ℕ) (x : X) → p < length xs → x ≡ get_or xs p x → take p xs ++ x ∷ drop (p + 1) xs ≡ xs
-around xs p x h e = ap (λ y. take p xs ++ y ∷ drop (p + 1) xs) e ∙ ap (λ ys. take p xs ++ ys) (sym (drop_more xs p x h)) ∙ take-append-drop p xs
 
 pub set_around : {X : Type 0} (xs : List X) (p : ℕ) (x : X) → p < length xs → set xs p x ≡ take p xs ++ x ∷ drop (p + 1) xs
 set_around xs p x h = sym (take-append-drop p (set xs p x)) ∙ ap₂ (λ a b. a ++ b) (take-set xs p x) (drop-set xs p x h)
@@ -64,18 +61,6 @@ pub replaced_place : (list next : List Op) (p : ℕ) (k : Item list p) → repla
 replaced_place list next p k e =
     at_place list p k
     ∙ ap (λ o. option_or (option_or o (option_or (then_some (copies_itself k.item) (take p list ++ drop (p + 1) list)) (unused (take p list) k.item (drop (p + 1) list) k.item.out))) (rewrite_from (take (p + 1) list) (drop (p + 1) list))) e
-
-pub removed_place : (list next : List Op) (p : ℕ) (b : Bool) (k : Item list p) → replaced (take p list) (drop (p + 1) list) (replacement (take p list) k.item (drop (p + 1) list)) ≡ None
-    → option_or (then_some (copies_itself k.item) (take p list ++ drop (p + 1) list)) (unused (take p list) k.item (drop (p + 1) list) k.item.out) ≡ cond b (Some next) None
-    → rewrite_from (take p list) (drop p list) ≡ cond b (Some next) (rewrite_from (take (p + 1) list) (drop (p + 1) list))
-removed_place list next p b k e f =
-    at_place list p k
-    ∙ ap₂ (λ o r. option_or (option_or o r) (rewrite_from (take (p + 1) list) (drop (p + 1) list))) e f
-    ∙ told b
-  where
-    told : (b : Bool) → option_or (cond b (Some next) None) (rewrite_from (take (p + 1) list) (drop (p + 1) list)) ≡ cond b (Some next) (rewrite_from (take (p + 1) list) (drop (p + 1) list))
-    told true = refl
-    told false = refl
 
 -- ---- what frees a base
 

@@ -17,18 +17,18 @@ pub(crate) fn is_identity(code: Code) -> bool
 pub(crate) fn is_scalar(code: Code) -> bool
     ensures { result ≡ is_scalar code }
 {
-    !matches!(
-        code,
+    match code {
         Code::Range
-            | Code::AddReduce
-            | Code::MultiplyReduce
-            | Code::MinimumReduce
-            | Code::MaximumReduce
-            | Code::AddAccumulate
-            | Code::MultiplyAccumulate
-            | Code::Free
-            | Code::Sync
-    )
+        | Code::AddReduce
+        | Code::MultiplyReduce
+        | Code::MinimumReduce
+        | Code::MaximumReduce
+        | Code::AddAccumulate
+        | Code::MultiplyAccumulate
+        | Code::Free
+        | Code::Sync => false,
+        _ => true,
+    }
 }
 
 /// Whether a constant may be joined to the one before it.
