@@ -10,6 +10,7 @@ ghost use Rattle.arr_rewrite.specs.Rules.{copies_itself};
 ghost use Rattle.arr_rewrite.specs.NextRewrite.{next_rewrite, replaced, replacement, rewrite_from, unused};
 ghost use Rattle.arr_rewrite.specs.NormalForm.{normal_form};
 
+use crate::meetings::Meetings;
 use crate::replaced::replacement;
 use crate::rules::copies_itself;
 use crate::unused::{remove_frees, unused_base};
@@ -17,27 +18,31 @@ use arr_ops::Op;
 use std::alloc::{AllocError as NoMemory, Global};
 
 /// Makes the first application that there is at the place, and tells whether there is one.
-fn rewrite_place(alloc: Global, list: &mut Vec<Op>, place: usize) -> Result<bool, NoMemory>
+fn rewrite_place(
+    meetings: &mut Meetings,
+    list: &mut Vec<Op>,
+    place: usize,
+) -> Result<bool, NoMemory>
     requires place { place < length list.now.items }
     requires formed { is_formed list.now.items ≡ true }
     ensures next { IfOk result (λ done. rewrite_from (take place list.old.items) (drop place list.old.items) ≡ cond done (Some list.new.items) (rewrite_from (take (place + 1) list.old.items) (drop (place + 1) list.old.items))) }
     ensures kept { IfOk result (λ done. done ≡ false → list.new.items ≡ list.old.items) }
 {
-    if replace(alloc, list, place)? {
+    if replace(meetings, list, place)? {
         return Ok(true);
     }
     Ok(remove(list, place))
 }
 
 /// Lets the operation at the place become another, where a rule says so.
-fn replace(alloc: Global, list: &mut Vec<Op>, place: usize) -> Result<bool, NoMemory>
+fn replace(meetings: &mut Meetings, list: &mut Vec<Op>, place: usize) -> Result<bool, NoMemory>
     requires place { place < length list.now.items }
     requires formed { is_formed list.now.items ≡ true }
     ensures becomes { IfOk result (λ done. (op : Op) → op ≡ get_or list.old.items place op → replaced (take place list.old.items) (drop (place + 1) list.old.items) (replacement (take place list.old.items) op (drop (place + 1) list.old.items)) ≡ cond done (Some list.new.items) None) }
     ensures kept { IfOk result (λ done. done ≡ false → list.new.items ≡ list.old.items) }
 {
     let ops = list.as_slice();
-    let next = replacement(alloc, &ops[..place], &ops[place], &ops[place + 1..])?;
+    let next = replacement(meetings, &ops[..place], &ops[place], &ops[place + 1..])?;
     match next {
         Some(next) => {
             list[place] = next;
@@ -69,13 +74,13 @@ fn remove(list: &mut Vec<Op>, place: usize) -> bool
 }
 
 /// Makes the next application, and tells whether there is one.
-fn rewrite_once(alloc: Global, list: &mut Vec<Op>) -> Result<bool, NoMemory>
+fn rewrite_once(meetings: &mut Meetings, list: &mut Vec<Op>) -> Result<bool, NoMemory>
     requires { is_formed list.now.items ≡ true }
     ensures next { IfOk result (λ done. next_rewrite list.old.items ≡ cond done (Some list.new.items) None) }
     ensures kept { IfOk result (λ done. done ≡ false → list.new.items ≡ list.old.items) }
 {
     for place in 0..list.len() {
-        if rewrite_place(alloc, list, place)? {
+        if rewrite_place(meetings, list, place)? {
             return Ok(true);
         }
     }
@@ -104,6 +109,7 @@ pub fn rewrite(alloc: Global, ops: &[Op]) -> Result<Vec<Op>, NoMemory>
     ensures memory { (m : Memory) → fits m ops.now ≡ true → IfOk result (λ list. eager m list.items ≡ eager m ops.now) }
 {
     let mut list = copied(alloc, ops)?;
-    'applications: while rewrite_once(alloc, &mut list)? {}
+    let mut meetings = Meetings::new(alloc);
+    'applications: while rewrite_once(&mut meetings, &mut list)? {}
     Ok(list)
 }

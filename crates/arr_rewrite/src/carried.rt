@@ -7,13 +7,14 @@ ghost use Rattle.arr_ops.specs.Ops.{outputs};
 ghost use Rattle.arr_rewrite.specs.Rules.{is_identity};
 ghost use Rattle.arr_rewrite.specs.NextRewrite.{constant_carried, copied_from, copied_operand, copy_carried, first_number, first_view, known_operand, second_number, second_view, source_number, source_view};
 
+use crate::meetings::Meetings;
 use crate::rules::{constant_op, with_first, with_second};
 use crate::tables::{is_identity, is_scalar};
 use crate::writers::{OnlyWriter, is_output, only_writer, unspoiled};
 use arr_num::Elem;
 use arr_ops::{Op, Operand};
 use arr_view::View;
-use std::alloc::{AllocError as NoMemory, Global};
+use std::alloc::AllocError as NoMemory;
 
 fn source_number(operand: &Option<Operand>) -> Option<i128>
     ensures { result ≡ source_number operand.now }
@@ -84,7 +85,7 @@ pub(crate) fn constant_carried(front: &[Op], op: &Op, back: &[Op]) -> Option<Op>
 
 /// The view that is copied, where it is unwritten in between.
 fn source_view(
-    alloc: Global,
+    meetings: &mut Meetings,
     between: &[Op],
     operand: &Option<Operand>,
 ) -> Result<Option<View>, NoMemory>
@@ -92,7 +93,7 @@ fn source_view(
 {
     match operand {
         Some(Operand::Array(view)) => {
-            if unspoiled(alloc, between, view)? {
+            if unspoiled(meetings, between, view)? {
                 return Ok(Some(view.copied()));
             }
             Ok(None)
@@ -115,18 +116,22 @@ fn copies_into(op: &Op, view: &View) -> bool
 }
 
 /// The view that the writer copies to this one.
-fn copied_from(alloc: Global, view: &View, writer: &OnlyWriter) -> Result<Option<View>, NoMemory>
+fn copied_from(
+    meetings: &mut Meetings,
+    view: &View,
+    writer: &OnlyWriter,
+) -> Result<Option<View>, NoMemory>
     ensures { IfOk result (λ v. v ≡ copied_from view.now (Some writer.now)) }
 {
     if !copies_into(writer.op, view) {
         return Ok(None);
     }
-    source_view(alloc, writer.between, &writer.op.first)
+    source_view(meetings, writer.between, &writer.op.first)
 }
 
 /// The view that was copied to the view which the operand reads.
 fn copied_operand(
-    alloc: Global,
+    meetings: &mut Meetings,
     front: &[Op],
     op: &Op,
     back: &[Op],
@@ -140,7 +145,7 @@ fn copied_operand(
     let Some(writer) = only_writer(front, op, back, view.base()) else {
         return Ok(None);
     };
-    copied_from(alloc, view, &writer)
+    copied_from(meetings, view, &writer)
 }
 
 fn first_view(op: &Op, view: Option<View>) -> Option<Op>
@@ -164,17 +169,17 @@ fn second_view(op: &Op, view: Option<View>) -> Option<Op>
 /// An operation reads a view that is the output of its base's only writer, which stands before it and is IDENTITY of a view of the
 /// same type, unwritten in between: it reads that view.
 pub(crate) fn copy_carried(
-    alloc: Global,
+    meetings: &mut Meetings,
     front: &[Op],
     op: &Op,
     back: &[Op],
 ) -> Result<Option<Op>, NoMemory>
     ensures { IfOk result (λ next. next ≡ copy_carried front.now op.now back.now) }
 {
-    let first = copied_operand(alloc, front, op, back, &op.first)?;
+    let first = copied_operand(meetings, front, op, back, &op.first)?;
     if let Some(next) = first_view(op, first) {
         return Ok(Some(next));
     }
-    let second = copied_operand(alloc, front, op, back, &op.second)?;
+    let second = copied_operand(meetings, front, op, back, &op.second)?;
     Ok(second_view(op, second))
 }

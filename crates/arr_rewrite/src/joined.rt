@@ -4,13 +4,14 @@ ghost use Rattle.arr_num.specs.Numbers.{in_type, value};
 ghost use Rattle.arr_ops.specs.Formed.{is_formed};
 ghost use Rattle.arr_rewrite.specs.NextRewrite.{beside, constants_joined, regroups};
 
+use crate::meetings::Meetings;
 use crate::rules::code_op;
 use crate::tables::{regroups, same_code};
 use crate::writers::{is_output, only_writer, unspoiled};
 use arr_num::binary;
 use arr_ops::{Op, Operand};
 use arr_view::View;
-use std::alloc::{AllocError as NoMemory, Global};
+use std::alloc::AllocError as NoMemory;
 use std::marker::Model;
 
 /// A view and a constant, in either order.
@@ -57,7 +58,7 @@ fn joined_number(op: &Op, left: i128, right: i128) -> i128
 /// A code that regroups, of a constant c and a view that is the output of its base's only writer, which stands before it and is the
 /// same code of a view w and a constant d, w unwritten in between: the code of w and of its value on d and c.
 pub(crate) fn constants_joined(
-    alloc: Global,
+    meetings: &mut Meetings,
     front: &[Op],
     op: &Op,
     back: &[Op],
@@ -83,7 +84,7 @@ pub(crate) fn constants_joined(
     let Some(source) = beside(&writer.op.first, &writer.op.second) else {
         return Ok(None);
     };
-    if !unspoiled(alloc, writer.between, source.view)? {
+    if !unspoiled(meetings, writer.between, source.view)? {
         return Ok(None);
     }
     let number = joined_number(op, source.number, read.number);

@@ -17,6 +17,7 @@
 mod applied;
 mod carried;
 mod joined;
+mod meetings;
 mod replaced;
 mod rules;
 mod tables;

@@ -5,15 +5,16 @@ ghost use Rattle.arr_rewrite.specs.NextRewrite.{replacement};
 
 use crate::carried::{constant_carried, copy_carried};
 use crate::joined::constants_joined;
+use crate::meetings::Meetings;
 use crate::rules::{
     constant_folded, fixed_known, neutral_dropped, power_unrolled, subtraction_turned,
 };
 use arr_ops::Op;
-use std::alloc::{AllocError as NoMemory, Global};
+use std::alloc::AllocError as NoMemory;
 
 /// What the operation becomes by the first rule that applies, of those that keep it (docs/PLANS.md, "Rewriting").
 pub(crate) fn replacement(
-    alloc: Global,
+    meetings: &mut Meetings,
     front: &[Op],
     op: &Op,
     back: &[Op],
@@ -36,10 +37,10 @@ pub(crate) fn replacement(
     if let Some(next) = constant_carried(front, op, back) {
         return Ok(Some(next));
     }
-    if let Some(next) = copy_carried(alloc, front, op, back)? {
+    if let Some(next) = copy_carried(meetings, front, op, back)? {
         return Ok(Some(next));
     }
-    if let Some(next) = constants_joined(alloc, front, op, back)? {
+    if let Some(next) = constants_joined(meetings, front, op, back)? {
         return Ok(Some(next));
     }
     Ok(subtraction_turned(op))

@@ -5,10 +5,11 @@ ghost use Rattle.arr_view.specs.Views.{identical};
 ghost use Rattle.arr_ops.specs.Ops.{outputs};
 ghost use Rattle.arr_rewrite.specs.Writers.{only_writer, only_writer_in, spoils, unspoiled, unwritten_base, writes_base};
 
+use crate::meetings::Meetings;
 use arr_ops::Op;
-use arr_overlap::{identical, overlaps};
+use arr_overlap::identical;
 use arr_view::View;
-use std::alloc::{AllocError as NoMemory, Global};
+use std::alloc::AllocError as NoMemory;
 use std::marker::Model;
 
 /// An operation, and those that stand after it, before the place that is spoken of.
@@ -76,24 +77,24 @@ pub(crate) fn only_writer<'a>(
 }
 
 /// Whether the operation writes what the view reads, or frees its base.
-fn spoils(alloc: Global, view: &View, op: &Op) -> Result<bool, NoMemory>
+fn spoils(meetings: &mut Meetings, view: &View, op: &Op) -> Result<bool, NoMemory>
     ensures { IfOk result (λ b. b ≡ spoils view.now op.now) }
 {
     if op.frees == Some(view.base()) {
         return Ok(true);
     }
     match &op.out {
-        Some(out) => overlaps(alloc, out, view),
+        Some(out) => meetings.overlap(out, view),
         None => Ok(false),
     }
 }
 
 /// Whether the view is unwritten by these.
-pub(crate) fn unspoiled(alloc: Global, ops: &[Op], view: &View) -> Result<bool, NoMemory>
+pub(crate) fn unspoiled(meetings: &mut Meetings, ops: &[Op], view: &View) -> Result<bool, NoMemory>
     ensures { IfOk result (λ b. b ≡ unspoiled ops.now view.now) }
 {
     for op in ops {
-        if spoils(alloc, view, op)? {
+        if spoils(meetings, view, op)? {
             return Ok(false);
         }
     }
