@@ -1,0 +1,6 @@
+pub mod State
+pub mod Steps
+pub mod Codes
+pub mod Expressions
+pub mod Outcome
+pub mod Recording
