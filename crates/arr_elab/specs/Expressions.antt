@@ -2,9 +2,10 @@
 -- itself; the first refusal is the script's.
 use Rattle.std.specs.Prelude.{ℕ, ℤ, pos, List, [], ◌∷◌, Bool, true, false, not, ◌&&◌, ◌==◌, nat_lt, length, map, get_or, if◌then◌else◌, Option, Some, None, unwrap_or}
 use Rattle.arr_num.specs.declared.elem.Elem.{Elem}
+use Rattle.arr_num.specs.declared.elem.Elem.TheVariants as elem
 use Rattle.arr_num.specs.declared.code.Code.{Code}
 use Rattle.arr_num.specs.declared.code.Code.TheVariants as code
-use Rattle.arr_num.specs.Numbers.{in_type}
+use Rattle.arr_num.specs.Numbers.{in_type, wrap}
 use Rattle.arr_num.specs.Kinds.{is_reduction}
 use Rattle.arr_ops.specs.Formed.{same_elem}
 use Rattle.arr_view.specs.Strided.{Strided}
@@ -104,10 +105,11 @@ cast at to of = do
   x ← array of
   pending at x.view.lengths (operation code.Identity (elem_of to) x.elem (taken x.view) None None)
 
+-- an exponent is a number of type u64
 abbrev pub power : Place → Reading Prepared → ℕ → Reading Prepared
 power at of exponent = do
   x ← array of
-  pending at x.view.lengths (operation code.Power x.elem x.elem (taken x.view) (Some (operand.Number (pos exponent))) None)
+  pending at x.view.lengths (operation code.Power x.elem x.elem (taken x.view) (Some (operand.Number (wrap elem.U64 (pos exponent)))) None)
 
 abbrev pub paired : Place → Code → Elem → List ℕ → Operand → Operand → Reading Prepared
 paired at code elem lengths x y = pending at lengths (operation code (result_type code elem) elem (Some x) (Some y) None)
