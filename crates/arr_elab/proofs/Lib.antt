@@ -1,3 +1,5 @@
 pub mod Derived
 pub mod Sliced
 pub mod Scenes
+pub mod Naming
+pub mod Keeping
