@@ -3,3 +3,4 @@ pub mod Sliced
 pub mod Scenes
 pub mod Naming
 pub mod Keeping
+pub mod Parts
