@@ -4,3 +4,5 @@ pub mod Scenes
 pub mod Naming
 pub mod Keeping
 pub mod Parts
+pub mod Shaped
+pub mod Wholes
