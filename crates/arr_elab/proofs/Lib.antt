@@ -6,3 +6,4 @@ pub mod Keeping
 pub mod Parts
 pub mod Shaped
 pub mod Wholes
+pub mod Waiting
