@@ -7,3 +7,4 @@ pub mod Parts
 pub mod Shaped
 pub mod Wholes
 pub mod Waiting
+pub mod Sound
