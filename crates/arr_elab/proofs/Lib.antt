@@ -8,3 +8,6 @@ pub mod Shaped
 pub mod Wholes
 pub mod Waiting
 pub mod Sound
+pub mod Forms
+pub mod Trees
+pub mod Statements

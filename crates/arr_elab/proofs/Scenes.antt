@@ -10,7 +10,7 @@ use Rattle.arr_view.specs.Strided.{Strided}
 use Rattle.arr_view.specs.Views.{elements, is_view}
 use Rattle.arr_ops.specs.Formed.{same_elem}
 use Rattle.arr_elab.specs.Recording.{Scene, length_of, type_of, is_live, stands}
-use Rattle.arr_elab.proofs.Derived.{Derived, is_below}
+use Rattle.arr_elab.proofs.Derived.{Derived, Lies, is_below}
 
 -- ---- types
 
@@ -100,6 +100,19 @@ stands_derived scene t v w h d =
         inside = ap (λ b. is_below (length_of scene b) w) d.base ∙ d.inside (length_of scene v.base) p.inside;
       };
       live = ap (is_live scene) d.base ∙ h.live;
+    }
+
+-- another view of the whole base
+pub stands_lying : (scene : Scene) (t : Elem) (v w : Strided) → Stands scene t v → Lies v.base (length_of scene v.base) w → Stands scene t w
+stands_lying scene t v w h l =
+    record {
+      placed = record {
+        lawful = l.lawful;
+        made = subst (λ b. b < length scene.bases) (sym l.base) h.placed.made;
+        typed = h.placed.typed ∙ ap (type_of scene) (sym l.base);
+        inside = ap (λ b. is_below (length_of scene b) w) l.base ∙ l.inside;
+      };
+      live = ap (is_live scene) l.base ∙ h.live;
     }
 
 -- ---- the base that is made next

@@ -53,14 +53,14 @@ in_turn P Q scene (Ok a) f r e first then =
     record { next = two.next; grows = grows_on scene one.next two.next one.grows two.grows; keeps = two.keeps; holds = two.holds }
 
 -- a test that passes
-pub needed : {Y : Type 0} (b : Bool) (at : Place) (kind : Kind) (q : Reading Y) (s : State) (r : Y × State) → (require b at kind >> q) s ≡ Ok r → (b ≡ true) × (q s ≡ Ok r)
-needed true at kind q s r e = (refl, e)
-needed false at kind q s r e = absurd (let f : Err (record { at = at; kind = kind }) ≡ Ok r = e in cc)
+pub needed : {Y : Type 0} (b : Bool) (at : Place) (kind : Kind) (s : State) (f : Unit {0} × State → Checked (Y × State)) (r : Y × State) → and_then (require b at kind s) f ≡ Ok r → (b ≡ true) × (f (tt, s) ≡ Ok r)
+needed true at kind s f r e = (refl, e)
+needed false at kind s f r e = absurd (let g : Err (record { at = at; kind = kind }) ≡ Ok r = e in cc)
 
 -- a rule that gives an answer
-pub by_rule : {A Y : Type 0} (at : Place) (o : Result A ShapeFault) (f : A → Reading Y) (s : State) (r : Y × State) → (ruled at o >>= f) s ≡ Ok r → (a : A) × (o ≡ Ok a) × (f a s ≡ Ok r)
-by_rule at (Ok a) f s r e = (a, refl, e)
-by_rule at (Err x) f s r e = absurd (let g : Err (record { at = at; kind = kind_of x }) ≡ Ok r = e in cc)
+pub by_rule : {A Y : Type 0} (at : Place) (o : Result A ShapeFault) (s : State) (f : A × State → Checked (Y × State)) (r : Y × State) → and_then (ruled at o s) f ≡ Ok r → (a : A) × (o ≡ Ok a) × (f (a, s) ≡ Ok r)
+by_rule at (Ok a) s f r e = (a, refl, e)
+by_rule at (Err x) s f r e = absurd (let g : Err (record { at = at; kind = kind_of x }) ≡ Ok r = e in cc)
 
 -- ---- what is read
 
