@@ -11,3 +11,4 @@ pub mod Sound
 pub mod Forms
 pub mod Trees
 pub mod Statements
+pub mod Recorded
