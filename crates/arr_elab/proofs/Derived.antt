@@ -1,5 +1,5 @@
 -- Views from views: what is made of a lawful view is one, and its elements are elements of the first.
-use Rattle.std.proofs.Common.{◌≡◌, ℕ, zero, suc, ◌+◌, ◌-◌, ◌*◌, ◌<◌, ◌≤◌, ℤ, pos, negsuc, ◌+ℤ◌, ◌*ℤ◌, List, [], ◌∷◌, ◌++◌, Bool, true, false, cond, not, ◌||◌, ◌&&◌, length, drop, map, reverse, refl, ap, ap₂, sym, ◌∙◌, subst, arith}
+use Rattle.std.proofs.Common.{◌≡◌, ℕ, zero, suc, ◌+◌, ◌-◌, ◌<◌, ◌≤◌, ℤ, pos, ◌+ℤ◌, ◌*ℤ◌, List, [], ◌∷◌, ◌++◌, Bool, true, false, cond, not, ◌||◌, ◌&&◌, length, drop, map, reverse, refl, ap, sym, ◌∙◌, subst, arith}
 use Rattle.std.specs.Prelude.{nat_lt, nat_le, ◌==◌, replicate, Result, Ok, Err}
 use Rattle.std.specs.List.{list_all, range_with_len}
 use Rattle.std.proofs.lemmas.Int.{ints}
@@ -7,17 +7,16 @@ use Rattle.std.proofs.lemmas.Bool.{and_parts, and_from, eqb-true, ltb-true, lt-l
 use Rattle.std.proofs.lemmas.List.{length-reverse}
 use Rattle.std.proofs.lemmas.List.Folds.{list_all-map}
 use Rattle.arr_view.specs.Strided.{Strided}
-use Rattle.arr_view.specs.Views.{elements, places, positions, to_place, is_place, is_view, whole_strides, whole_view, kept_strides}
+use Rattle.arr_view.specs.Views.{elements, places, positions, to_place, is_place, is_view, whole_strides, kept_strides}
 use Rattle.arr_view.proofs.Places.{steps_is, in_steps, out_steps}
 use Rattle.arr_view.proofs.Checks.{same_rank}
 use Rattle.arr_view.proofs.Strides.{keeps}
-use Rattle.arr_shape.specs.declared.fault.ShapeFault.{ShapeFault}
 use Rattle.arr_shape.specs.declared.fault.ShapeFault.TheVariants.{ShapeMismatch, RankRange, NotContiguous, CountMismatch, OutsideBase}
 use Rattle.arr_shape.specs.Shapes.{padded, is_shape}
 use Rattle.arr_shape.specs.Views.{place_at, element_at, is_index, own_index, spread_from, spread, all_spread, spread_strides, padded_strides, transpose, reshape, is_consecutive, strided, is_within}
-use Rattle.arr_shape.specs.Slices.{scaled, cut_view, IsCut, AreCuts}
+use Rattle.arr_shape.specs.Slices.{scaled, cut_view, AreCuts}
 use Rattle.arr_shape.proofs.Shapes.{shape_of}
-use Rattle.arr_shape.proofs.Made.{Sound, strided_of, is_made, sound_view}
+use Rattle.arr_shape.proofs.Made.{strided_of, is_made, sound_view}
 use Rattle.arr_shape.proofs.Indexes.{shifted, index_length, index_turned, place_turned, sound_turned}
 use Rattle.arr_shape.proofs.Spreads.{sound_spread, spread_element}
 use Rattle.arr_shape.proofs.CutViews.{add_times, times_times, firsts, counts, place_is, begins, sound_cuts}
@@ -37,6 +36,10 @@ ok_unless false f r w e = (refl, e)
 pub not_false : (b : Bool) → not b ≡ false → b ≡ true
 not_false true e = refl
 not_false false e = absurd (let g : true ≡ false = e in cc)
+
+pub not_true : (b : Bool) → not b ≡ true → b ≡ false
+not_true true e = absurd (let g : false ≡ true = e in cc)
+not_true false e = refl
 
 -- ---- all elements by their indices
 

@@ -1,6 +1,6 @@
 -- Each form of an expression keeps a scene, where its arguments do.
-use Rattle.std.proofs.Common.{◌≡◌, ℕ, zero, suc, ℤ, pos, ◌<◌, ◌≤◌, List, [], ◌∷◌, Bool, true, false, not, length, get_or, map, refl, ap, sym, ◌∙◌, subst, arith}
-use Rattle.std.specs.Prelude.{nat_lt, nat_le, ◌==◌, Option, Some, None, Ok, Err}
+use Rattle.std.proofs.Common.{◌≡◌, ℕ, List, [], ◌∷◌, Bool, true, not, length, get_or, map, refl, ap, sym, ◌∙◌, subst, arith}
+use Rattle.std.specs.Prelude.{nat_lt, ◌==◌, Ok, Err}
 use Rattle.std.proofs.Math.ListN.{get_or-map}
 use Rattle.std.proofs.lemmas.Bool.{ltb-true, ltb-false, eqb-false}
 use Rattle.arr_num.specs.declared.elem.Elem.{Elem}
@@ -22,7 +22,6 @@ use Rattle.arr_syntax.specs.declared.tree.Cut.{Cut}
 use Rattle.arr_syntax.specs.declared.tree.Word.{Word}
 use Rattle.arr_syntax.specs.declared.tree.Lengths.{Lengths}
 use Rattle.arr_syntax.specs.declared.tree.Steps.{Steps}
-use Rattle.arr_elab.specs.declared.value.Array.{Array}
 use Rattle.arr_elab.specs.declared.value.Value.{Value}
 use Rattle.arr_elab.specs.declared.value.Value.TheVariants as value
 use Rattle.arr_elab.specs.declared.value.Prepared.{Prepared}
@@ -31,12 +30,12 @@ use Rattle.arr_elab.specs.State.{State, Reading, ◌>>=◌}
 use Rattle.arr_elab.specs.Codes.{elem_of, binary_code, spelled}
 use Rattle.arr_elab.specs.Expressions.{pending, seen, settled, array, lookup, named, literal, unary, cast, power, joined, binary, fold, range, filled, full, bounds, index, broadcasted, transposed, reshaped, strided_anew}
 use Rattle.arr_elab.specs.Recording.{Scene, length_of}
-use Rattle.arr_elab.proofs.Derived.{Derived, Lies, is_below, ok_if, derived_spread, derived_turned, derived_reshaped, lies_strided}
+use Rattle.arr_elab.proofs.Derived.{not_true, Lies, is_below, ok_if, derived_spread, derived_turned, derived_reshaped, lies_strided}
 use Rattle.arr_elab.proofs.Sliced.{derived_slice}
-use Rattle.arr_elab.proofs.Scenes.{Stands, Placed, stands_derived, stands_lying, elem_same}
+use Rattle.arr_elab.proofs.Scenes.{Stands, stands_derived, stands_lying, elem_same}
 use Rattle.arr_elab.proofs.Keeping.{Keeps}
 use Rattle.arr_elab.proofs.Shaped.{view_shape, checked_is, line_shape, broadcast_shape}
-use Rattle.arr_elab.proofs.Waiting.{Pends, pends_copy, pends_unary, pends_power, pends_fold, pends_number, pends_range, pends_pair, Fitting, number, view}
+use Rattle.arr_elab.proofs.Waiting.{Pends, pends_copy, pends_unary, pends_power, pends_fold, pends_number, pends_range, pends_pair, number, view}
 use Rattle.arr_elab.proofs.Sound.{Reads, Sound, at_once, in_turn, needed, by_rule, IsArray, IsValue, IsPrepared, value_on, value_sound, array_sound, lookup_sound}
 
 opened : (at : Place) (shape : List ℕ) (op : Op) (scene : Scene) (s : State) (r : Prepared × State) → Keeps s scene → Pends scene shape op → pending at shape op s ≡ Ok r → Reads IsPrepared scene r
@@ -102,10 +101,6 @@ binary_sound at c left right h i scene s r k e =
     in_turn IsValue IsPrepared next ((right >>= settled) a.1) _ r e (λ b f. value_sound right i next a.1 b j f) (λ b last l m y e. joined_reads at c a.0 b.0 last b.1 r m (value_on next last a.0 l x) y e))
 
 -- ---- arrays made from nothing
-
-not_true : (b : Bool) → not b ≡ true → b ≡ false
-not_true true e = absurd (let g : false ≡ true = e in cc)
-not_true false e = refl
 
 pub range_sound : (at : Place) (count : ℕ) (count_at : Place) (to : Type4) → Sound IsPrepared (range at count count_at to)
 range_sound at count count_at to scene s r k e =

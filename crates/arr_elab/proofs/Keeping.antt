@@ -1,9 +1,8 @@
 -- A state and the scene that its steps leave.
-use Rattle.std.proofs.Common.{◌≡◌, ℕ, zero, suc, ◌+◌, ◌<◌, ◌≤◌, List, [], ◌∷◌, ◌++◌, Bool, true, false, cond, ◌&&◌, ◌||◌, length, get_or, map, refl, ap, ap₂, sym, ◌∙◌, subst, arith, length-append}
+use Rattle.std.proofs.Common.{◌≡◌, ℕ, zero, suc, ◌+◌, ◌≤◌, List, [], ◌∷◌, ◌++◌, Bool, true, false, ◌&&◌, ◌||◌, length, map, refl, ap, ap₂, sym, ◌∙◌, subst, arith, length-append}
 use Rattle.std.specs.Prelude.{◌==◌, nat_le, nat_lt, Option, Some, None}
-use Rattle.std.specs.List.{list_any}
 use Rattle.std.specs.Option.{option_and_then}
-use Rattle.std.proofs.lemmas.Bool.{and_from, lt-ltb, le-leb, eq-eqb, eqb-true, eqb-false}
+use Rattle.std.proofs.lemmas.Bool.{and_from, lt-ltb, eq-eqb, eqb-true, eqb-false}
 use Rattle.std.proofs.lemmas.List.{append-nil, map-append}
 use Rattle.std.proofs.Math.Bool.{or-true}
 use Rattle.arr_num.specs.declared.elem.Elem.{Elem}
@@ -11,8 +10,8 @@ use Rattle.arr_ops.specs.declared.op.Op.{Op}
 use Rattle.arr_elab.specs.declared.value.Array.{Array}
 use Rattle.arr_elab.specs.declared.step.Step.{Step}
 use Rattle.arr_elab.specs.declared.step.Step.TheVariants.{Act, Name, Forget, Done, Cut}
-use Rattle.arr_elab.specs.State.{State, Names, nothing_yet, stands_for, number_of, with_name}
-use Rattle.arr_elab.specs.Recording.{Scene, opening, is_live, may_act, made_by, other_names, allowed, after_step, after_steps}
+use Rattle.arr_elab.specs.State.{State, nothing_yet, stands_for, number_of, with_name}
+use Rattle.arr_elab.specs.Recording.{Scene, opening, may_act, made_by, other_names, allowed, after_step, after_steps}
 use Rattle.arr_elab.proofs.Scenes.{Grows, Placed, Stands, placed_on, with_base, grows_base}
 use Rattle.arr_elab.proofs.Naming.{at_number, found_at, set_at, kept_at, notes, notes_live, notes_other}
 

@@ -1,11 +1,11 @@
 -- The steps of an accepted script keep to what a recording is.
 use Rattle.std.proofs.Common.{◌≡◌, List, true, refl, ap, sym, ◌∙◌}
-use Rattle.std.specs.Prelude.{Option, is_some, Result, Ok, Err}
+use Rattle.std.specs.Prelude.{is_some, Ok, Err}
 use Rattle.arr_syntax.specs.declared.tree.Statement.{Statement}
 use Rattle.arr_elab.specs.declared.step.Step.{Step}
 use Rattle.arr_elab.specs.State.{State, Checked, and_then, nothing_yet}
 use Rattle.arr_elab.specs.Outcome.{statements, outcome}
-use Rattle.arr_elab.specs.Recording.{opening, after_steps, is_recording}
+use Rattle.arr_elab.specs.Recording.{opening, is_recording}
 use Rattle.arr_elab.proofs.Keeping.{keeps_nothing}
 use Rattle.arr_elab.proofs.Statements.{Leaves, statements_leave}
 

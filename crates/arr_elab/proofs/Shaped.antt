@@ -1,16 +1,15 @@
 -- The shapes of an expression are shapes.
-use Rattle.std.proofs.Common.{◌≡◌, ℕ, zero, suc, ◌+◌, ◌*◌, ◌<◌, ◌≤◌, List, [], ◌∷◌, ◌++◌, Bool, true, false, cond, not, ◌&&◌, length, take, drop, refl, ap, ap₂, sym, ◌∙◌, subst, arith}
-use Rattle.std.specs.Prelude.{nat_lt, nat_le, max, ◌==◌, Ok, Err}
+use Rattle.std.proofs.Common.{◌≡◌, ℕ, zero, suc, ◌+◌, ◌*◌, ◌<◌, ◌≤◌, List, [], ◌∷◌, ◌++◌, true, cond, not, length, take, drop, refl, sym, ◌∙◌, subst, arith}
+use Rattle.std.specs.Prelude.{nat_lt, nat_le, max, Ok, Err}
 use Rattle.std.specs.List.{list_all}
 use Rattle.std.proofs.Math.Nat.{mul-le-mul_left, mul-le-mul_right}
-use Rattle.std.proofs.lemmas.Bool.{and_parts, and_from, leb-true, le-leb, ltb-true, ltb-false, eqb-false}
+use Rattle.std.proofs.lemmas.Bool.{and_parts, and_from, leb-true, le-leb, ltb-false}
 use Rattle.arr_view.specs.Strided.{Strided}
 use Rattle.arr_view.specs.Views.{has_rank, positions, is_view}
 use Rattle.arr_view.proofs.Checks.{lawful}
-use Rattle.arr_view.proofs.Counting.{some_position}
 use Rattle.arr_shape.specs.declared.fault.ShapeFault.TheVariants.{ShapeMismatch, EmptyArray, RankRange, TooManyElements}
-use Rattle.arr_shape.specs.Shapes.{is_shape, checked_shape, dropped_axis, padded, all_match, greater, joined, broadcast}
-use Rattle.arr_shape.proofs.Shapes.{IsShape, shape_of, ranked, length-padded, padded_lengths, length-greater, greater_lengths}
+use Rattle.arr_shape.specs.Shapes.{is_shape, checked_shape, dropped_axis, padded, all_match, greater, broadcast}
+use Rattle.arr_shape.proofs.Shapes.{shape_of, ranked, length-padded, padded_lengths, length-greater, greater_lengths}
 use Rattle.arr_elab.proofs.Derived.{ok_unless, not_false}
 
 pub shape_from : (ns : List ℕ) → has_rank ns ≡ true → list_all (nat_le 1) ns ≡ true → positions ns ≤ 1048576 → is_shape ns ≡ true

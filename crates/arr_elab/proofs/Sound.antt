@@ -1,16 +1,14 @@
 -- What a reading leaves: a scene that grew, and something that stands in it.
-use Rattle.std.proofs.Common.{◌≡◌, ℕ, ◌+◌, ◌<◌, ◌≤◌, List, [], ◌∷◌, ◌++◌, Bool, true, false, cond, length, map, refl, ap, sym, ◌∙◌, subst}
+use Rattle.std.proofs.Common.{◌≡◌, ℕ, ◌+◌, [], ◌∷◌, ◌++◌, Bool, true, false, cond, length, refl, ap, sym, ◌∙◌, subst}
 use Rattle.std.specs.Prelude.{nat_lt, Option, Some, None, Result, Ok, Err}
 use Rattle.std.proofs.lemmas.List.{length-map}
 use Rattle.arr_num.specs.declared.elem.Elem.{Elem}
 use Rattle.arr_view.specs.Strided.{Strided}
 use Rattle.arr_view.specs.Views.{positions, whole_view}
-use Rattle.arr_ops.specs.declared.op.Op.{Op}
 use Rattle.arr_shape.specs.declared.fault.ShapeFault.{ShapeFault}
 use Rattle.arr_syntax.specs.declared.refusal.Place.{Place}
 use Rattle.arr_syntax.specs.declared.refusal.Kind.{Kind}
 use Rattle.arr_syntax.specs.declared.refusal.Kind.TheVariants.{TypeMismatch, UnknownName, TooMuchLive}
-use Rattle.arr_syntax.specs.declared.refusal.Refusal.{Refusal}
 use Rattle.arr_syntax.specs.declared.tree.Word.{Word}
 use Rattle.arr_elab.specs.declared.value.Array.{Array}
 use Rattle.arr_elab.specs.declared.value.Value.{Value}
@@ -19,8 +17,8 @@ use Rattle.arr_elab.specs.declared.value.Pending.{Pending}
 use Rattle.arr_elab.specs.declared.value.Prepared.{Prepared}
 use Rattle.arr_elab.specs.declared.value.Prepared.TheVariants.{Ready, Open}
 use Rattle.arr_elab.specs.declared.step.Step.TheVariants.{Act}
-use Rattle.arr_elab.specs.State.{State, Reading, Checked, and_then, ◌>>=◌, ◌>>◌, pure, refuse, require, ruled, kind_of, stands_for, fresh, live, most_live}
-use Rattle.arr_elab.specs.Expressions.{onto, written, settled, array_of, array, found, lookup, pending}
+use Rattle.arr_elab.specs.State.{State, Reading, Checked, and_then, ◌>>=◌, pure, require, ruled, kind_of, stands_for, fresh, live, most_live}
+use Rattle.arr_elab.specs.Expressions.{onto, written, settled, array_of, array, found, lookup}
 use Rattle.arr_elab.specs.Recording.{Scene}
 use Rattle.arr_elab.proofs.Scenes.{Grows, grows_none, grows_on, Stands, stands_on, with_base, grows_base}
 use Rattle.arr_elab.proofs.Keeping.{Keeps, keeps_made, stands_named}

@@ -1,5 +1,5 @@
 -- Every statement keeps a scene.
-use Rattle.std.proofs.Common.{◌≡◌, ℕ, List, [], ◌∷◌, ◌++◌, Bool, true, false, cond, not, ◌||◌, length, refl, ap, sym, ◌∙◌, subst}
+use Rattle.std.proofs.Common.{◌≡◌, ℕ, List, [], ◌∷◌, ◌++◌, Bool, true, false, cond, not, ◌||◌, length, refl, sym, subst}
 use Rattle.std.specs.Prelude.{nat_lt, Option, Some, None, is_some, Ok, Err}
 use Rattle.arr_num.specs.declared.elem.Elem.{Elem}
 use Rattle.arr_num.specs.declared.code.Code.TheVariants as code
@@ -20,20 +20,19 @@ use Rattle.arr_syntax.specs.declared.tree.Form.TheVariants as form
 use Rattle.arr_syntax.specs.declared.tree.Statement.{Statement}
 use Rattle.arr_elab.specs.declared.value.Array.{Array}
 use Rattle.arr_elab.specs.declared.value.Value.TheVariants as value
-use Rattle.arr_elab.specs.declared.value.Pending.{Pending}
 use Rattle.arr_elab.specs.declared.value.Prepared.{Prepared}
 use Rattle.arr_elab.specs.declared.value.Prepared.TheVariants.{Ready, Open}
-use Rattle.arr_elab.specs.declared.step.Step.TheVariants.{Act, Name, Forget, Done, Cut}
-use Rattle.arr_elab.specs.State.{State, Reading, Checked, and_then, ◌>>=◌, ◌>>◌, pure, require, step, act, stands_for, number_of, with_name, most_names}
+use Rattle.arr_elab.specs.declared.step.Step.TheVariants.{Act, Forget}
+use Rattle.arr_elab.specs.State.{State, Reading, Checked, and_then, ◌>>=◌, ◌>>◌, pure, require, act, stands_for, number_of, with_name, most_names}
 use Rattle.arr_elab.specs.Expressions.{operation, onto, taken, written, array, found}
-use Rattle.arr_elab.specs.Outcome.{prepared, assigned, stored, bound, bind, forget, set_name, effect, begin, statement, statements}
+use Rattle.arr_elab.specs.Outcome.{prepared, assigned, stored, bound, bind, forget, effect, begin, statement, statements}
 use Rattle.arr_elab.specs.Recording.{Scene, stands, may_act}
-use Rattle.arr_elab.proofs.Derived.{derived_spread}
+use Rattle.arr_elab.proofs.Derived.{not_true, derived_spread}
 use Rattle.arr_elab.proofs.Scenes.{Grows, Stands, stands_on, stands_derived, stands_test, elem_self, elem_same}
 use Rattle.arr_elab.proofs.Keeping.{Keeps, keeps_act, keeps_done, keeps_cut, keeps_begun, keeps_name, keeps_forgotten}
 use Rattle.arr_elab.proofs.Shaped.{view_shape}
 use Rattle.arr_elab.proofs.Waiting.{Pends, pends_copy, pends_number, may_store}
-use Rattle.arr_elab.proofs.Sound.{Reads, Sound, needed, by_rule, IsArray, IsPrepared, array_sound, written_reads}
+use Rattle.arr_elab.proofs.Sound.{Reads, needed, by_rule, IsArray, IsPrepared, array_sound, written_reads}
 use Rattle.arr_elab.proofs.Trees.{prepared_sound}
 
 -- what a statement leaves keeps some scene
@@ -54,10 +53,6 @@ after P scene (Ok a) f r e first then =
     then a one.next one.grows one.keeps one.holds e
 
 -- ---- targets
-
-not_true : (b : Bool) → not b ≡ true → b ≡ false
-not_true true e = absurd (let g : false ≡ true = e in cc)
-not_true false e = refl
 
 -- two tests that pass
 both_needed : (a b : Bool) (at : Place) (first second : Kind) (s : State) (f : Unit {0} × State → Checked (Unit {0} × State)) (r : Unit {0} × State)

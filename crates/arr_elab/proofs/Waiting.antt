@@ -1,6 +1,6 @@
 -- Operations whose output is open may act, on a base of their own or on a target.
-use Rattle.std.proofs.Common.{◌≡◌, ℕ, ℤ, pos, List, [], ◌∷◌, ◌++◌, Bool, true, false, cond, not, ◌&&◌, ◌||◌, ◌<◌, ◌≤◌, length, refl, ap, ap₂, sym, ◌∙◌, subst, arith}
-use Rattle.std.specs.Prelude.{nat_lt, ◌==◌, Option, Some, None, is_none}
+use Rattle.std.proofs.Common.{◌≡◌, ℕ, ℤ, pos, List, [], ◌∷◌, ◌++◌, Bool, true, false, cond, not, ◌&&◌, ◌<◌, length, refl, ap, ap₂, sym, subst, arith}
+use Rattle.std.specs.Prelude.{◌==◌, Some, None, is_none}
 use Rattle.std.specs.List.{list_all}
 use Rattle.std.proofs.lemmas.Bool.{and_from, lt-ltb, eq-eqb, ne_eqb}
 use Rattle.arr_num.specs.declared.elem.Elem.{Elem}
@@ -9,7 +9,7 @@ use Rattle.arr_num.specs.declared.code.Code.TheVariants as code
 use Rattle.arr_num.specs.Numbers.{in_type, wrap}
 use Rattle.arr_num.specs.Kinds.{is_reduction}
 use Rattle.arr_view.specs.Strided.{Strided}
-use Rattle.arr_view.specs.Views.{is_view, positions, repeats, whole_view}
+use Rattle.arr_view.specs.Views.{is_view, repeats, whole_view}
 use Rattle.arr_ops.specs.declared.op.Op.{Op}
 use Rattle.arr_ops.specs.declared.op.Operand.{Operand}
 use Rattle.arr_ops.specs.declared.op.Operand.TheVariants as operand
@@ -17,11 +17,10 @@ use Rattle.arr_ops.specs.Ops.{inputs, view_of}
 use Rattle.arr_ops.specs.Formed.{kind_kept, with_slot, well_formed, makes_whole, numbers_of, same_shape}
 use Rattle.arr_syntax.specs.declared.tree.Code16.{Code16}
 use Rattle.arr_shape.specs.Shapes.{is_shape, dropped_axis}
-use Rattle.arr_shape.proofs.Shapes.{shape_of}
 use Rattle.arr_elab.specs.Codes.{binary_code, unary_code, fold_code, result_type}
 use Rattle.arr_elab.specs.Expressions.{operation, onto, taken, fold_shape}
 use Rattle.arr_elab.specs.Recording.{Scene, stands, may_act}
-use Rattle.arr_elab.proofs.Scenes.{Grows, Placed, Stands, stands_on, stands_test}
+use Rattle.arr_elab.proofs.Scenes.{Grows, Stands, stands_on, stands_test}
 use Rattle.arr_elab.proofs.Parts.{lists_test, copy_kept, unary_kept, power_kept, pair_kept, fold_kept, number_kept, range_kept}
 use Rattle.arr_elab.proofs.Shaped.{view_shape, dropped_shape}
 use Rattle.arr_elab.proofs.Wholes.{whole_once, whole_is, whole_lawful}
