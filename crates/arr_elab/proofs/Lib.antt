@@ -3,12 +3,12 @@ pub mod Sliced
 pub mod Scenes
 pub mod Naming
 pub mod Keeping
-pub mod Parts
+pub mod KindsKept
 pub mod Shaped
 pub mod Wholes
 pub mod Waiting
 pub mod Sound
-pub mod Forms
-pub mod Trees
-pub mod Statements
+pub mod EachForm
+pub mod EachTree
+pub mod EachStatement
 pub mod Recorded

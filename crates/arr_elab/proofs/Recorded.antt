@@ -7,7 +7,7 @@ use Rattle.arr_elab.specs.State.{State, Checked, and_then, nothing_yet}
 use Rattle.arr_elab.specs.Outcome.{statements, outcome}
 use Rattle.arr_elab.specs.Recording.{opening, is_recording}
 use Rattle.arr_elab.proofs.Keeping.{keeps_nothing}
-use Rattle.arr_elab.proofs.Statements.{Leaves, statements_leave}
+use Rattle.arr_elab.proofs.EachStatement.{Leaves, statements_leave}
 
 abbrev steps_of : Unit {0} × State → Checked (List Step)
 steps_of done = Ok done.1.steps

@@ -21,7 +21,7 @@ use Rattle.arr_elab.specs.Codes.{binary_code, unary_code, fold_code, result_type
 use Rattle.arr_elab.specs.Expressions.{operation, onto, taken, fold_shape}
 use Rattle.arr_elab.specs.Recording.{Scene, stands, may_act}
 use Rattle.arr_elab.proofs.Scenes.{Grows, Stands, stands_on, stands_test}
-use Rattle.arr_elab.proofs.Parts.{lists_test, copy_kept, unary_kept, power_kept, pair_kept, fold_kept, number_kept, range_kept}
+use Rattle.arr_elab.proofs.KindsKept.{lists_test, copy_kept, unary_kept, power_kept, pair_kept, fold_kept, number_kept, range_kept}
 use Rattle.arr_elab.proofs.Shaped.{view_shape, dropped_shape}
 use Rattle.arr_elab.proofs.Wholes.{whole_once, whole_is, whole_lawful}
 

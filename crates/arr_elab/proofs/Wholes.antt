@@ -14,7 +14,7 @@ use Rattle.arr_shape.proofs.Consecutive.{sound_whole}
 use Rattle.arr_elab.specs.Recording.{Scene}
 use Rattle.arr_elab.proofs.Derived.{is_below}
 use Rattle.arr_elab.proofs.Scenes.{Stands, with_base, next_base, next_live}
-use Rattle.arr_elab.proofs.Parts.{lists_test}
+use Rattle.arr_elab.proofs.KindsKept.{lists_test}
 
 range_has : (z n x : ℕ) → x < z → has (range_with_len z n) x ≡ false
 range_has z zero x h = refl

@@ -33,7 +33,7 @@ use Rattle.arr_elab.proofs.Keeping.{Keeps, keeps_act, keeps_done, keeps_cut, kee
 use Rattle.arr_elab.proofs.Shaped.{view_shape}
 use Rattle.arr_elab.proofs.Waiting.{Pends, pends_copy, pends_number, may_store}
 use Rattle.arr_elab.proofs.Sound.{Reads, needed, by_rule, IsArray, IsPrepared, array_sound, written_reads}
-use Rattle.arr_elab.proofs.Trees.{prepared_sound}
+use Rattle.arr_elab.proofs.EachTree.{prepared_sound}
 
 -- what a statement leaves keeps some scene
 pub record Leaves (r : Unit {0} × State) : Type 0 where

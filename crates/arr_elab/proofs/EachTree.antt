@@ -9,7 +9,7 @@ use Rattle.arr_elab.specs.declared.value.Prepared.{Prepared}
 use Rattle.arr_elab.specs.State.{Reading}
 use Rattle.arr_elab.specs.Outcome.{by_form, prepared}
 use Rattle.arr_elab.proofs.Sound.{Sound, IsPrepared}
-use Rattle.arr_elab.proofs.Forms.{named_sound, literal_sound, unary_sound, cast_sound, power_sound, fold_sound, binary_sound, range_sound, full_sound, index_sound, broadcasted_sound, transposed_sound, reshaped_sound, strided_sound}
+use Rattle.arr_elab.proofs.EachForm.{named_sound, literal_sound, unary_sound, cast_sound, power_sound, fold_sound, binary_sound, range_sound, full_sound, index_sound, broadcasted_sound, transposed_sound, reshaped_sound, strided_sound}
 
 -- the form of an expression, once its place is known
 abbrev prepared_form : ExprForm → Place → Reading Prepared
