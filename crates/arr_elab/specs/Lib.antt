@@ -4,3 +4,5 @@ pub mod Codes
 pub mod Expressions
 pub mod Outcome
 pub mod Recording
+pub mod Contract
+pub mod Totals

@@ -8,14 +8,9 @@ pub enum Step {
     /// An operation is recorded. A SYNC has no slot yet, and FREE isn't among them.
     Act(Op),
     /// A name stands for a view of a base from here on. Names are numbered from 0 in the order in which they were first bound.
-    Name {
-        name: u32,
-        base: u32,
-    },
+    Name { name: u32, base: u32 },
     /// A name stands for nothing from here on.
-    Forget {
-        name: u32,
-    },
+    Forget { name: u32 },
     /// A statement ends.
     Done,
     /// What waits is run.

@@ -16,10 +16,7 @@ pub(crate) struct Array {
 #[derive(Debug, Drop)]
 pub(crate) enum Value {
     /// A literal, and the place of its first token.
-    Literal {
-        at: Place,
-        number: i128,
-    },
+    Literal { at: Place, number: i128 },
     Array(Array),
 }
 
