@@ -1,0 +1,4 @@
+pub mod Runs
+pub mod Home
+pub mod Cells
+pub mod Joined
