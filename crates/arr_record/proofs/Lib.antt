@@ -2,3 +2,4 @@ pub mod Runs
 pub mod Home
 pub mod Cells
 pub mod Joined
+pub mod Kept
