@@ -3,3 +3,5 @@ pub mod Home
 pub mod Cells
 pub mod Joined
 pub mod Kept
+pub mod Recorded
+pub mod Freed
