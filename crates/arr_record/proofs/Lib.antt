@@ -5,3 +5,4 @@ pub mod Joined
 pub mod Kept
 pub mod Recorded
 pub mod Freed
+pub mod Walk
