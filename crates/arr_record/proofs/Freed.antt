@@ -12,7 +12,7 @@ use Rattle.arr_ops.specs.Memory.{eager, step, empty, computed, changed, Drops, K
 use Rattle.arr_ops.specs.Formed.{well_formed}
 use Rattle.arr_ops.proofs.Pairs.{Pairs, All_weaker}
 use Rattle.arr_elab.specs.Steps.{printed, slot_count, slot_from, with_slot}
-use Rattle.arr_record.specs.Flushes.{State, most, cut_list, cut, cut_if, append, free, free_each}
+use Rattle.arr_record.specs.Flushes.{Written, most, cut_list, cut, cut_if, append, free, free_each}
 use Rattle.arr_record.proofs.Home.{Home, place_of, all_with}
 use Rattle.arr_record.proofs.Joined.{Allowed}
 use Rattle.arr_record.proofs.Kept.{Kept, now_of, live_after, kept_more, kept_cut, not_true}
@@ -25,30 +25,21 @@ cut_kept bases live past lists [] k = k
 cut_kept bases live past lists (op ∷ ops) k = kept_cut bases live past lists (op ∷ ops) (omega arith) k
 
 -- between operations fewer wait than a list has at most
-pub record Going (bases : List (ℕ × Elem)) (live : ℕ → Bool) (past : List Op) (s : State) : Type 0 where
+pub record Going (bases : List (ℕ × Elem)) (live : ℕ → Bool) (past : List Op) (s : Written) : Type 0 where
   pub kept : Kept bases live past s.lists s.waiting
   pub short : length s.waiting < most
 
-pub going_cut : (bases : List (ℕ × Elem)) (live : ℕ → Bool) (past : List Op) (s : State) → Kept bases live past s.lists s.waiting → Going bases live past (cut s)
+pub going_cut : (bases : List (ℕ × Elem)) (live : ℕ → Bool) (past : List Op) (s : Written) → Kept bases live past s.lists s.waiting → Going bases live past (cut s)
 going_cut bases live past s k = record { kept = cut_kept bases live past s.lists s.waiting k; short = omega arith }
 
 -- a list is cut where it is full
-pub settled : (bases : List (ℕ × Elem)) (live : ℕ → Bool) (past : List Op) (s : State) → Kept bases live past s.lists s.waiting
+pub settled : (bases : List (ℕ × Elem)) (live : ℕ → Bool) (past : List Op) (s : Written) → Kept bases live past s.lists s.waiting
     → Going bases live past (cut_if (length s.waiting == most) s)
 settled bases live past s k =
     elim (length s.waiting == most) as (λ t. (length s.waiting == most) ≡ t → Going bases live past (cut_if t s)) [
       | true ↦ λ e. going_cut bases live past s k
       | false ↦ λ e. record { kept = k; short = (let ne : length s.waiting ≢ most = eqb-false (length s.waiting) most e in let l : length s.waiting ≤ most = k.few in omega arith) }
     ] refl
-
--- the names and the live bases stay
-pub cut_if_names : (test : Bool) (s : State) → (cut_if test s).names ≡ s.names
-cut_if_names true s = refl
-cut_if_names false s = refl
-
-pub cut_if_live : (test : Bool) (s : State) → (cut_if test s).live ≡ s.live
-cut_if_live true s = refl
-cut_if_live false s = refl
 
 -- ---- one FREE
 
@@ -65,7 +56,7 @@ free_well base = by_type base.1
 abbrev pub Lives : List (ℕ × Elem) → (ℕ → Bool) → ℕ × Elem → Type 0
 Lives bases live base = (live base.0 ≡ true) × (base.1 ≡ (place_of bases base.0).1)
 
-going_free : (bases : List (ℕ × Elem)) (live : ℕ → Bool) (past : List Op) (s : State) (base : ℕ × Elem) → Lives bases live base → Going bases live past s
+going_free : (bases : List (ℕ × Elem)) (live : ℕ → Bool) (past : List Op) (s : Written) (base : ℕ × Elem) → Lives bases live base → Going bases live past s
     → Going bases (live_after live (free base)) past (append s (free base))
 going_free bases live past s base alive g =
     let k : Kept bases live past s.lists s.waiting = g.kept in
@@ -126,7 +117,7 @@ without_none live b = both (live b)
     both true = refl
     both false = refl
 
-pub going_alike : (bases : List (ℕ × Elem)) (live other : ℕ → Bool) (past : List Op) (s : State) → ((b : ℕ) → live b ≡ other b) → Going bases live past s → Going bases other past s
+pub going_alike : (bases : List (ℕ × Elem)) (live other : ℕ → Bool) (past : List Op) (s : Written) → ((b : ℕ) → live b ≡ other b) → Going bases live past s → Going bases other past s
 going_alike bases live other past s e g = let same : live ≡ other = (λ i b. e b i) in subst (λ l. Going bases l past s) same g
 
 -- those that come later still live
@@ -136,16 +127,12 @@ later_live bases live base bs =
     all_with (λ (other : ℕ × Elem). base.0 < other.0) (Lives bases live) (Lives bases (live_after live (free base)))
     (λ other l h. (ap₂ (λ x y. (x || false) && not (y || false)) h.0 (let ne : other.0 ≢ base.0 = (λ e. absurd (omega arith)) in ne_eqb other.0 base.0 ne), h.1)) bs
 
-pub going_frees : (bases : List (ℕ × Elem)) (bs : List (ℕ × Elem)) (live : ℕ → Bool) (past : List Op) (s : State) → Pairs (λ (x y : ℕ × Elem). x.0 < y.0) bs → AllByRecursion (Lives bases live) bs
+pub going_frees : (bases : List (ℕ × Elem)) (bs : List (ℕ × Elem)) (live : ℕ → Bool) (past : List Op) (s : Written) → Pairs (λ (x y : ℕ × Elem). x.0 < y.0) bs → AllByRecursion (Lives bases live) bs
     → Going bases live past s → Going bases (live_without live bs) past (free_each s bs)
 going_frees bases [] live past s p h g = going_alike bases live (live_without live []) past s (without_none live) g
 going_frees bases (base ∷ bs) live past s p h g =
     going_alike bases (live_without (live_after live (free base)) bs) (live_without live (base ∷ bs)) past (free_each (append s (free base)) bs) (without_first live base bs)
     (going_frees bases bs (live_after live (free base)) past (append s (free base)) p.1 (later_live bases live base bs p.0 h.1) (going_free bases live past s base h.0 g))
-
-pub frees_names : (s : State) (bs : List (ℕ × Elem)) → (free_each s bs).names ≡ s.names
-frees_names s [] = refl
-frees_names s (base ∷ bs) = frees_names (append s (free base)) bs ∙ cut_if_names _ (record s { waiting = s.waiting ++ free base ∷ [] })
 
 -- ---- the bases that a test keeps
 

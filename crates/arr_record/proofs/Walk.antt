@@ -21,7 +21,7 @@ use Rattle.arr_elab.specs.declared.step.Step.{Step}
 use Rattle.arr_elab.specs.declared.step.Step.TheVariants.{Act, Name, Forget, Done, Cut}
 use Rattle.arr_elab.specs.Steps.{acts, slotted, printed, slot_count, slot_from, next_slot, with_slot}
 use Rattle.arr_elab.specs.Recording.{Scene, opening, is_live, may_act, made_by, other_names, after_step, after_steps, is_recording, allowed}
-use Rattle.arr_record.specs.Flushes.{State, nothing_yet, most, cut, cut_if, append, made, done, is_named, free_each, after, after_all, ended, flush_lists}
+use Rattle.arr_record.specs.Flushes.{State, nothing_yet, most, cut, cut_if, append, next_op, made, done, is_named, unnamed, free_each, after, after_all, ended, flush_lists}
 use Rattle.arr_record.specs.Runs.{after_lists, printed_lists, each_fits}
 use Rattle.arr_record.proofs.Runs.{eager_append, printed_more, next_slot_is, shown_at, content}
 use Rattle.arr_record.proofs.Home.{Home, place_of, place_more, all_with, typed_parts, TypedAmong}
@@ -29,7 +29,7 @@ use Rattle.arr_record.proofs.Cells.{computed_alike, left_alike}
 use Rattle.arr_record.proofs.Joined.{Allowed, pairs_more}
 use Rattle.arr_record.proofs.Kept.{Kept, Lawful, start_of, now_of, live_after, kept_more, not_true}
 use Rattle.arr_record.proofs.Recorded.{Recorded, recorded}
-use Rattle.arr_record.proofs.Freed.{Going, settled, going_cut, going_frees, going_alike, frees_names, cut_if_names, cut_if_live, lives, live_without, lives_kept, rest_lives, all_live, Lives}
+use Rattle.arr_record.proofs.Freed.{Going, settled, going_cut, going_frees, going_alike, lives, live_without, lives_kept, rest_lives, all_live, Lives}
 
 abbrev pub TypesOf : List (ℕ × Elem) → List (ℕ × Elem) → Type 0
 TypesOf bases live = AllByRecursion (λ (base : ℕ × Elem). base.1 ≡ (place_of bases base.0).1) live
@@ -39,7 +39,7 @@ Rising live = Pairs (λ (x y : ℕ × Elem). x.0 < y.0) live
 
 -- after some steps, beside what a recording keeps to
 pub record Walked (scene : Scene) (past : List Op) (s : State) : Type 0 where
-  pub going : Going scene.bases (lives s.live) past s
+  pub going : Going scene.bases (lives s.live) past s.written
   pub names : s.names ≡ scene.names
   pub live : (b : ℕ) → is_live scene b ≡ true → lives s.live b ≡ true
   pub types : TypesOf scene.bases s.live
@@ -93,44 +93,38 @@ rising_made bases live t (Some o) true h l r =
 abbrev scene_after : Scene → Op → Scene
 scene_after scene op = record scene { bases = scene.bases ++ made_by op }
 
-abbrev next_op : List Op → Op → Op
-next_op ops op = with_slot op (slot_from (suc (slot_count ops)) op.code)
-
 module _ (scene : Scene) (past : List Op) (s : State) (op : Op) (w : Walked scene past s) (may : may_act scene op ≡ true) where
-  g : Op
-  g = next_op s.waiting op
+  r : Recorded scene (lives s.live) op (next_op s.written.waiting op)
+  r = recorded scene (lives s.live) op (suc (slot_count s.written.waiting)) w.live may
 
-  r : Recorded scene (lives s.live) op (next_op s.waiting op)
-  r = recorded scene (lives s.live) op (suc (slot_count s.waiting)) w.live may
-
-  k : Kept scene.bases (lives s.live) past s.lists s.waiting
+  k : Kept scene.bases (lives s.live) past s.written.lists s.written.waiting
   k = w.going.kept
 
-  same_numbers : computed (now_of s.lists s.waiting) op ≡ computed (eager empty past) op
+  same_numbers : computed (now_of s.written.lists s.written.waiting) op ≡ computed (eager empty past) op
   same_numbers =
-      computed_alike (now_of s.lists s.waiting) (eager empty past) op
-      (All_weaker (λ (v : Strided). lives s.live v.base ≡ true) (λ (v : Strided). (now_of s.lists s.waiting).bases v.base ≡ (eager empty past).bases v.base) (λ v t. k.same v.base t) (inputs op) r.allowed.reads)
+      computed_alike (now_of s.written.lists s.written.waiting) (eager empty past) op
+      (All_weaker (λ (v : Strided). lives s.live v.base ≡ true) (λ (v : Strided). (now_of s.written.lists s.written.waiting).bases v.base ≡ (eager empty past).bases v.base) (λ v t. k.same v.base t) (inputs op) r.allowed.reads)
 
-  same_bases : (b : ℕ) → live_after (lives s.live) (next_op s.waiting op) b ≡ true
-      → (step (now_of s.lists s.waiting) (next_op s.waiting op)).bases b ≡ (eager empty (past ++ next_op past op ∷ [])).bases b
+  same_bases : (b : ℕ) → live_after (lives s.live) (next_op s.written.waiting op) b ≡ true
+      → (step (now_of s.written.lists s.written.waiting) (next_op s.written.waiting op)).bases b ≡ (eager empty (past ++ next_op past op ∷ [])).bases b
   same_bases b h =
-      left_alike op (computed (now_of s.lists s.waiting) op) (computed (eager empty past) op) b ((now_of s.lists s.waiting).bases b) ((eager empty past).bases b) same_numbers
+      left_alike op (computed (now_of s.written.lists s.written.waiting) op) (computed (eager empty past) op) b ((now_of s.written.lists s.written.waiting).bases b) ((eager empty past).bases b) same_numbers
       (or_cases (lives s.live b) (makes_base op b) (both_left (lives s.live b || makes_base op b) _ h) (λ t. inr (k.same b t)) (λ t. inl t))
       (ap (λ f. has (option_to_list f) b) r.no_free)
       ∙ ap (λ (m : Memory). m.bases b) (sym (eager_append empty past (next_op past op ∷ [])))
 
-  same_prints : printed empty past ++ shown_at (next_op s.waiting op).slot (content (now_of s.lists s.waiting) (next_op s.waiting op)) ≡ printed empty (past ++ next_op past op ∷ [])
+  same_prints : printed empty past ++ shown_at (next_op s.written.waiting op).slot (content (now_of s.written.lists s.written.waiting) (next_op s.written.waiting op)) ≡ printed empty (past ++ next_op past op ∷ [])
   same_prints =
       ap (λ ss. printed empty past ++ ss)
-      (shown_alike op.code (suc (slot_count s.waiting)) (suc (slot_count past)) (content (now_of s.lists s.waiting) op) (content (eager empty past) op)
-      (ap (λ xs. record (content (now_of s.lists s.waiting) op) { numbers = xs }) same_numbers))
+      (shown_alike op.code (suc (slot_count s.written.waiting)) (suc (slot_count past)) (content (now_of s.written.lists s.written.waiting) op) (content (eager empty past) op)
+      (ap (λ xs. record (content (now_of s.written.lists s.written.waiting) op) { numbers = xs }) same_numbers))
       ∙ sym (printed_more empty past (next_op past op) refl)
 
-  kept_after : Kept (scene.bases ++ made_by op) (lives (s.live ++ made op)) (past ++ next_op past op ∷ []) s.lists (s.waiting ++ next_op s.waiting op ∷ [])
+  kept_after : Kept (scene.bases ++ made_by op) (lives (s.live ++ made op)) (past ++ next_op past op ∷ []) s.written.lists (s.written.waiting ++ next_op s.written.waiting op ∷ [])
   kept_after =
-      let live_is : live_after (lives s.live) (next_op s.waiting op) ≡ lives (s.live ++ made op) = (λ i b. lives_more s.live op b r.no_free i) in
-      subst (λ live. Kept (scene.bases ++ made_by op) live (past ++ next_op past op ∷ []) s.lists (s.waiting ++ next_op s.waiting op ∷ [])) live_is
-      (kept_more scene.bases (lives s.live) past s.lists s.waiting (next_op s.waiting op) k r.allowed r.home (past ++ next_op past op ∷ []) refl w.going.short same_bases same_prints)
+      let live_is : live_after (lives s.live) (next_op s.written.waiting op) ≡ lives (s.live ++ made op) = (λ i b. lives_more s.live op b r.no_free i) in
+      subst (λ live. Kept (scene.bases ++ made_by op) live (past ++ next_op past op ∷ []) s.written.lists (s.written.waiting ++ next_op s.written.waiting op ∷ [])) live_is
+      (kept_more scene.bases (lives s.live) past s.written.lists s.written.waiting (next_op s.written.waiting op) k r.allowed r.home (past ++ next_op past op ∷ []) refl w.going.short same_bases same_prints)
 
   below : AllByRecursion (λ (base : ℕ × Elem). base.0 < length scene.bases) s.live
   below = All_weaker (λ (base : ℕ × Elem). lives s.live base.0 ≡ true) (λ (base : ℕ × Elem). base.0 < length scene.bases) (λ base t. k.below base.0 t) s.live (all_live s.live)
@@ -143,7 +137,7 @@ module _ (scene : Scene) (past : List Op) (s : State) (op : Op) (w : Walked scen
       (all_map (λ (base : ℕ × Elem). base.1 ≡ (place_of (scene.bases ++ made_by op) base.0).1) (λ (o : Strided). (o.base, op.to)) (filter (λ _. op.makes) (outputs op))
       (All_filter (λ (o : Strided). op.to ≡ (place_of (scene.bases ++ made_by op) o.base).1) (λ _. op.makes) (outputs op)
       (All_weaker (λ (o : Strided). TypedAmong (scene.bases ++ made_by op) (o.base, op.to)) (λ (o : Strided). op.makes ≡ true → op.to ≡ (place_of (scene.bases ++ made_by op) o.base).1) (λ o t _. t.1) (outputs op)
-      (typed_parts (TypedAmong (scene.bases ++ made_by op)) (next_op s.waiting op) r.home.typed_there).0)))
+      (typed_parts (TypedAmong (scene.bases ++ made_by op)) (next_op s.written.waiting op) r.home.typed_there).0)))
 
   live_then : (b : ℕ) → is_live (scene_after scene op) b ≡ true → lives (s.live ++ made op) b ≡ true
   live_then b h =
@@ -156,17 +150,13 @@ module _ (scene : Scene) (past : List Op) (s : State) (op : Op) (w : Walked scen
 
   pub walked_act : Walked (scene_after scene op) (past ++ next_op past op ∷ []) (after s (Act op))
   walked_act =
-      let wait : List Op = s.waiting ++ next_op s.waiting op ∷ [] in
-      let full : Bool = length (s.waiting ++ next_op s.waiting op ∷ []) == most in
-      let held : State = record s { live = s.live ++ made op; waiting = s.waiting ++ next_op s.waiting op ∷ [] } in
-      let live_is : (cut_if full held).live ≡ s.live ++ made op = cut_if_live full held in
       record {
-        going = subst (λ live. Going (scene.bases ++ made_by op) (lives live) (past ++ next_op past op ∷ []) (cut_if full held)) (sym live_is)
-            (settled (scene.bases ++ made_by op) (lives (s.live ++ made op)) (past ++ next_op past op ∷ []) held kept_after);
-        names = cut_if_names full held ∙ w.names;
-        live = λ b h. subst (λ live. lives live b ≡ true) (sym live_is) (live_then b h);
-        types = subst (TypesOf (scene.bases ++ made_by op)) (sym live_is) types_after;
-        rising = subst Rising (sym live_is) (rising_made scene.bases s.live op.to op.out op.makes r.allowed.makes below w.rising);
+        going = settled (scene.bases ++ made_by op) (lives (s.live ++ made op)) (past ++ next_op past op ∷ [])
+            (record { lists = s.written.lists; waiting = s.written.waiting ++ next_op s.written.waiting op ∷ [] }) kept_after;
+        names = w.names;
+        live = live_then;
+        types = types_after;
+        rising = rising_made scene.bases s.live op.to op.out op.makes r.allowed.makes below w.rising;
       }
 
 -- ---- names
@@ -197,7 +187,7 @@ renamed : (scene : Scene) (past : List Op) (s : State) (names : List (ℕ × ℕ
     → Walked (record scene { names = names }) past (record s { names = names })
 renamed scene past s names w f =
     record {
-      going = record { kept = w.going.kept; short = w.going.short };
+      going = w.going;
       names = refl;
       live = λ b h. w.live b (f b h);
       types = w.types;
@@ -221,28 +211,26 @@ walked_forget scene past s n w =
 
 -- ---- the end of a statement
 
-going_done : (bases : List (ℕ × Elem)) (past : List Op) (s : State) → Going bases (lives s.live) past s → TypesOf bases s.live → Rising s.live → Going bases (lives (done s).live) past (done s)
+going_done : (bases : List (ℕ × Elem)) (past : List Op) (s : State) → Going bases (lives s.live) past s.written → TypesOf bases s.live → Rising s.live
+    → Going bases (lives (done s).live) past (done s).written
 going_done bases past s g types rising =
     let test : ℕ → Bool = stands_for s.names in
-    let unnamed : List (ℕ × Elem) = filter (λ (base : ℕ × Elem). not (test base.0)) s.live in
-    let pairs : Pairs (λ (x y : ℕ × Elem). x.0 < y.0) unnamed =
+    let pairs : Pairs (λ (x y : ℕ × Elem). x.0 < y.0) (unnamed s.names s.live) =
     Pairs_filter (λ (x y : ℕ × Elem). x.0 < y.0) (λ (base : ℕ × Elem). not (test base.0)) s.live
     (Pairs_weaker (λ (x y : ℕ × Elem). x.0 < y.0) (λ (x y : ℕ × Elem). not (test x.0) ≡ true → not (test y.0) ≡ true → x.0 < y.0) (λ x y l _ _. l) s.live rising) in
-    let alive : AllByRecursion (Lives bases (lives s.live)) unnamed =
+    let alive : AllByRecursion (Lives bases (lives s.live)) (unnamed s.names s.live) =
     All_filter (Lives bases (lives s.live)) (λ (base : ℕ × Elem). not (test base.0)) s.live
     (all_with (λ (base : ℕ × Elem). lives s.live base.0 ≡ true) (λ (base : ℕ × Elem). base.1 ≡ (place_of bases base.0).1) (λ (base : ℕ × Elem). not (test base.0) ≡ true → Lives bases (lives s.live) base)
     (λ base l t _. (l, t)) s.live (all_live s.live) types) in
-    let after_frees : Going bases (live_without (lives s.live) unnamed) past (free_each s unnamed) = going_frees bases unnamed (lives s.live) past s pairs alive g in
-    let rest : Going bases (lives (done s).live) past (free_each s unnamed) =
-    going_alike bases (live_without (lives s.live) unnamed) (lives (done s).live) past (free_each s unnamed) (rest_lives test s.live) after_frees in
-    record { kept = rest.kept; short = rest.short }
+    going_alike bases (live_without (lives s.live) (unnamed s.names s.live)) (lives (done s).live) past (free_each s.written (unnamed s.names s.live)) (rest_lives test s.live)
+    (going_frees bases (unnamed s.names s.live) (lives s.live) past s.written pairs alive g)
 
 walked_done : (scene : Scene) (past : List Op) (s : State) → Walked scene past s → Walked (record scene { first = length scene.bases }) past (after s Done)
 walked_done scene past s w =
     let test : ℕ → Bool = stands_for s.names in
     record {
       going = going_done scene.bases past s w.going w.types w.rising;
-      names = frees_names s (filter (λ (base : ℕ × Elem). not (test base.0)) s.live) ∙ w.names;
+      names = w.names;
       live = λ b h.
           let l : nat_lt b (length scene.bases) ≡ true = both_left (nat_lt b (length scene.bases)) _ h in
           let named : stands_for scene.names b ≡ true = (or_cases (nat_le (length scene.bases) b) (stands_for scene.names b) (both_right (nat_lt b (length scene.bases)) _ h)
@@ -256,7 +244,7 @@ walked_done scene past s w =
     }
 
 walked_cut : (scene : Scene) (past : List Op) (s : State) → Walked scene past s → Walked scene past (after s Cut)
-walked_cut scene past s w = record { going = going_cut scene.bases (lives s.live) past s w.going.kept; names = w.names; live = w.live; types = w.types; rising = w.rising }
+walked_cut scene past s w = record { going = going_cut scene.bases (lives s.live) past s.written w.going.kept; names = w.names; live = w.live; types = w.types; rising = w.rising }
 
 -- ---- the whole
 
@@ -270,12 +258,12 @@ pub record Recording (past : List Op) (lists : List (List Op)) : Type 0 where
 finished : (scene : Scene) (past : List Op) (s : State) → Walked scene past s → Recording past (ended s).lists
 finished scene past s w =
     let last : State = done (record s { names = [] }) in
-    let g : Going scene.bases (lives last.live) past last = going_done scene.bases past (record s { names = [] }) (record { kept = w.going.kept; short = w.going.short }) w.types w.rising in
-    let k : Kept scene.bases (lives last.live) past (cut last).lists [] = (going_cut scene.bases (lives last.live) past last g.kept).kept in
+    let g : Going scene.bases (lives last.live) past last.written = going_done scene.bases past (record s { names = [] }) w.going w.types w.rising in
+    let k : Kept scene.bases (lives last.live) past (cut last.written).lists [] = (going_cut scene.bases (lives last.live) past last.written g.kept).kept in
     record {
       lawful = k.lawful;
       fitting = k.fitting;
-      prints = sym (append-nil (printed_lists empty (cut last).lists)) ∙ k.prints;
+      prints = sym (append-nil (printed_lists empty (cut last.written).lists)) ∙ k.prints;
       emptied = λ b. k.absent b (lives_kept (stands_for []) s.live b ∙ and_false (lives s.live b));
     }
   where
