@@ -1,5 +1,5 @@
 -- Lists and operations, one more at the end.
-use Rattle.std.proofs.Common.{◌≡◌, ◌≢◌, ℕ, ◌+◌, ◌<◌, zero, suc, List, [], ◌∷◌, ◌++◌, Bool, true, false, ◌&&◌, ◌⊎◌, inl, inr, ⊎_elim, refl, ap, ap₂, sym, subst, ◌∙◌, arith, Option, Some, None, length, length-append, append_assoc, append-nil, cond}
+use Rattle.std.proofs.Common.{◌≡◌, ◌≢◌, ℕ, ◌+◌, ◌<◌, ◌≤◌, zero, suc, List, [], ◌∷◌, ◌++◌, Bool, true, false, ◌&&◌, ◌⊎◌, inl, inr, ⊎_elim, refl, ap, ap₂, sym, subst, ◌∙◌, arith, Option, Some, None, length, length-append, append_assoc, append-nil, cond}
 use Rattle.std.proofs.lemmas.Bool.{ne_eqb, eq-eqb}
 use Rattle.std.proofs.lemmas.Grind.{flat_map-append}
 use Rattle.std.specs.List.{flat_map, range_with_len}
@@ -107,3 +107,16 @@ printed_more m ops op e =
         ap (λ k. slots_to k (step (eager m ops) op)) (let same : slot_count (ops ++ op ∷ []) ≡ suc n = omega arith in same)
         ∙ slots_more (eager m ops) op n some ∙ ap (λ s. slots_to n (eager m ops) ++ shown_at s (content (eager m ops) op)) (sym some))
     (slot_cases (suc n) op.code)
+
+pub slot_count_few : (ops : List Op) → slot_count ops ≤ length ops
+slot_count_few [] = omega arith
+slot_count_few (op ∷ ops) =
+    let rest : slot_count ops ≤ length ops = slot_count_few ops in
+    let both : slot_count (op ∷ ops) ≡ length (option_to_list op.slot) + slot_count ops =
+    length-append (option_to_list op.slot) (flat_map (λ (f : Op). option_to_list f.slot) ops) in
+    let one : length (option_to_list op.slot) ≤ 1 = at_most op.slot in
+    omega arith
+  where
+    at_most : (s : Option ℕ) → length (option_to_list s) ≤ 1
+    at_most None = omega arith
+    at_most (Some s) = omega arith
