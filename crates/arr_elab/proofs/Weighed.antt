@@ -57,7 +57,7 @@ script_weight (s ∷ ss) = form_weight s.form + script_weight ss
 
 -- ---- the weight of each form
 
-abbrev weight_form : ExprForm → ℕ
+abbrev pub weight_form : ExprForm → ℕ
 weight_form = fold-ExprForm ℕ ℕ weight_of (λ e. e.form)
 
 weighs : (at : Place) (y : ExprForm-F ExprForm Expr) (f : ExprForm) → roll-ExprForm y ≡ f → weight (record { at = at; form = f }) ≡ weight_of (map-ExprForm ExprForm Expr ℕ ℕ weight_form weight y)
