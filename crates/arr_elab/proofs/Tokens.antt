@@ -1,9 +1,16 @@
--- A text has at most one token a byte, and its end.
-use Rattle.std.proofs.Common.{ℕ, zero, suc, ◌+◌, ◌-◌, ◌≤◌, List, [], ◌∷◌, length, Option, Some, None, arith}
+-- A text has at most one token a byte, and its end; so the script of a text records no more operations than it has bytes and one.
+use Rattle.std.proofs.Common.{◌≡◌, ℕ, zero, suc, ◌+◌, ◌-◌, ◌≤◌, List, [], ◌∷◌, length, Option, Some, None, Ok, arith}
 use Rattle.arr_syntax.specs.declared.refusal.Place.{Place}
 use Rattle.arr_syntax.specs.declared.token.Item.{Item}
 use Rattle.arr_syntax.specs.declared.token.Token.{Token}
-use Rattle.arr_syntax.specs.Tokens.{piece, beyond, put, items_from, tokens}
+use Rattle.arr_syntax.specs.Tokens.{piece, beyond, put, items_from}
+pub use Rattle.arr_syntax.specs.Tokens.{tokens}
+pub use Rattle.arr_syntax.specs.declared.tree.Statement.{Statement}
+pub use Rattle.arr_syntax.specs.Grammar.{Script}
+use Rattle.arr_elab.specs.declared.step.Step.{Step}
+use Rattle.arr_elab.specs.Steps.{acts}
+use Rattle.arr_elab.specs.Outcome.{outcome}
+use Rattle.arr_elab.proofs.Counted.{few_acts}
 
 put_short : (o : Option Token) (p : Place) (items : List Item) (n : ℕ) → length items ≤ n → length (put o p items) ≤ n + 1
 put_short None p items n h = omega arith
@@ -21,3 +28,6 @@ items_short zero p (b ∷ bs) =
 
 pub tokens_short : (text : List ℕ) → length (tokens text) ≤ length text + 1
 tokens_short text = items_short 0 (record { line = 1; column = 1 }) text
+
+pub few_of_text : (text : List ℕ) (ss : List Statement) (steps : List Step) → Script (tokens text) ss → outcome ss ≡ Ok steps → length (acts steps) ≤ length text + 1
+few_of_text text ss steps script e = let h = few_acts (tokens text) ss steps script e in let k = tokens_short text in omega arith

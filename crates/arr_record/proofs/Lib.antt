@@ -6,3 +6,4 @@ pub mod Kept
 pub mod Recorded
 pub mod Freed
 pub mod Walk
+pub mod Few
