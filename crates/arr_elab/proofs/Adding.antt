@@ -1,37 +1,24 @@
 -- How many operations the reading of each form of an expression adds.
-use Rattle.std.proofs.Common.{◌≡◌, ℕ, ◌+◌, ◌≤◌, List, [], ◌∷◌, ◌++◌, Bool, true, false, cond, not, ◌||◌, length, get_or, map, refl, ap, sym, ◌∙◌, subst, arith}
-use Rattle.std.specs.Prelude.{nat_lt, ◌==◌, Option, Some, None, is_some, Result, Ok, Err}
+use Rattle.std.proofs.Common.{◌≡◌, ℕ, ◌+◌, ◌≤◌, List, [], ◌∷◌, ◌++◌, Bool, true, false, cond, not, length, get_or, map, refl, subst, arith}
+use Rattle.std.specs.Prelude.{nat_lt, ◌==◌, Option, Some, None, Ok, Err}
 use Rattle.arr_num.specs.declared.elem.Elem.{Elem}
 use Rattle.arr_num.specs.declared.code.Code.{Code}
-use Rattle.arr_num.specs.declared.code.Code.TheVariants as code
 use Rattle.arr_num.specs.Numbers.{in_type}
 use Rattle.arr_view.specs.Strided.{Strided}
-use Rattle.arr_view.specs.Views.{positions, whole_view, repeats, same_lists}
+use Rattle.arr_view.specs.Views.{positions, whole_view}
 use Rattle.arr_ops.specs.declared.op.Op.{Op}
-use Rattle.arr_ops.specs.declared.op.Operand.TheVariants as operand
 use Rattle.arr_ops.specs.Formed.{same_elem}
-use Rattle.arr_shape.specs.declared.fault.ShapeFault.{ShapeFault}
 use Rattle.arr_shape.specs.Shapes.{checked_shape, checked_axis, broadcast}
 use Rattle.arr_shape.specs.Views.{spread, transpose, reshape, strided}
 use Rattle.arr_shape.specs.Slices.{slice}
 use Rattle.arr_syntax.specs.declared.refusal.Place.{Place}
-use Rattle.arr_syntax.specs.declared.refusal.Kind.{Kind}
-use Rattle.arr_syntax.specs.declared.refusal.Kind.TheVariants.{TypeMismatch, LiteralRange, RankRange, EmptyArray, TooManyElements, UnknownName, TooMuchLive, OutputRepeats, TooManyNames}
+use Rattle.arr_syntax.specs.declared.refusal.Kind.TheVariants.{TypeMismatch, LiteralRange, RankRange, EmptyArray, TooManyElements, UnknownName, TooMuchLive}
 use Rattle.arr_syntax.specs.declared.tree.Code16.{Code16}
 use Rattle.arr_syntax.specs.declared.tree.Type4.{Type4}
 use Rattle.arr_syntax.specs.declared.tree.Cut.{Cut}
 use Rattle.arr_syntax.specs.declared.tree.Word.{Word}
 use Rattle.arr_syntax.specs.declared.tree.Lengths.{Lengths}
 use Rattle.arr_syntax.specs.declared.tree.Steps.{Steps}
-use Rattle.arr_syntax.specs.declared.tree.Expr.{Expr}
-use Rattle.arr_syntax.specs.declared.tree.ExprForm.{ExprForm}
-use Rattle.arr_syntax.specs.declared.tree.ExprForm.TheOpen.{ExprForm-F}
-use Rattle.arr_syntax.specs.declared.tree.ExprForm.TheFolds.{map-ExprForm, fold-ExprForm, fold-roll-ExprForm, fold-roll-Expr, ind-Expr}
-use Rattle.arr_syntax.specs.declared.tree.Form.{Form}
-use Rattle.arr_syntax.specs.declared.tree.Form.TheVariants as form
-use Rattle.arr_syntax.specs.declared.tree.Statement.{Statement}
-use Rattle.arr_syntax.specs.declared.token.Item.{Item}
-use Rattle.arr_syntax.specs.Grammar.{Script}
 use Rattle.arr_elab.specs.declared.value.Array.{Array}
 use Rattle.arr_elab.specs.declared.value.Value.{Value}
 use Rattle.arr_elab.specs.declared.value.Value.TheVariants as value
@@ -41,13 +28,11 @@ use Rattle.arr_elab.specs.declared.value.Prepared.TheVariants.{Ready, Open}
 use Rattle.arr_elab.specs.declared.step.Step.{Step}
 use Rattle.arr_elab.specs.declared.step.Step.TheVariants.{Act}
 use Rattle.arr_elab.specs.declared.step.Step.TheVariants as step
-use Rattle.arr_elab.specs.State.{State, Reading, Checked, and_then, ◌>>=◌, ◌>>◌, pure, require, ruled, known, act, stands_for, number_of, with_name, fresh, live, most_live, most_names, nothing_yet}
+use Rattle.arr_elab.specs.State.{State, Reading, Checked, and_then, ◌>>=◌, pure, stands_for, fresh, live, most_live}
 use Rattle.arr_elab.specs.Steps.{acts}
 use Rattle.arr_elab.specs.Codes.{elem_of, binary_code, spelled}
-use Rattle.arr_elab.specs.Expressions.{operation, onto, pending, seen, settled, array_of, array, written, taken, found, lookup, named, literal, unary, cast, power, paired, joined, binary, fold, range, filled, full, bounds, index, broadcasted, transposed, reshaped, strided_anew}
-use Rattle.arr_elab.specs.Outcome.{by_form, prepared, copied, assigned, stored, bound, set_name, bind, forget, effect, begin, statement, statements, outcome}
+use Rattle.arr_elab.specs.Expressions.{onto, pending, seen, settled, array_of, array, written, found, lookup, named, literal, unary, cast, power, joined, binary, fold, range, filled, full, bounds, index, broadcasted, transposed, reshaped, strided_anew}
 use Rattle.arr_elab.proofs.Sound.{needed, by_rule}
-use Rattle.arr_elab.proofs.Weighed.{weight_of, weight, form_weight, script_weight, script_short}
 
 -- ---- how many operations a reading adds
 

@@ -1,9 +1,8 @@
 -- An accepted script records no more operations than it has tokens.
-use Rattle.std.proofs.Common.{◌≡◌, ℕ, ◌+◌, ◌≤◌, List, [], ◌∷◌, ◌++◌, Bool, true, false, cond, not, ◌||◌, length, refl, ap, sym, ◌∙◌, subst, arith}
+use Rattle.std.proofs.Common.{◌≡◌, ℕ, ◌+◌, ◌≤◌, List, [], ◌∷◌, ◌++◌, Bool, true, false, cond, not, ◌||◌, length, refl, ap, sym, subst, arith}
 use Rattle.std.specs.Prelude.{nat_lt, Option, Some, None, is_some, Ok, Err}
 use Rattle.arr_num.specs.declared.code.Code.TheVariants as code
 use Rattle.arr_num.specs.Numbers.{in_type}
-use Rattle.arr_view.specs.Strided.{Strided}
 use Rattle.arr_view.specs.Views.{repeats, same_lists}
 use Rattle.arr_ops.specs.declared.op.Op.{Op}
 use Rattle.arr_ops.specs.declared.op.Operand.TheVariants as operand
@@ -30,7 +29,7 @@ use Rattle.arr_elab.specs.declared.step.Step.TheVariants.{Act, Name, Forget, Don
 use Rattle.arr_elab.specs.State.{State, Reading, Checked, and_then, ◌>>=◌, ◌>>◌, pure, require, act, stands_for, number_of, with_name, most_names, nothing_yet}
 use Rattle.arr_elab.specs.Steps.{acts}
 use Rattle.arr_elab.specs.Expressions.{operation, onto, array, written, taken, found}
-use Rattle.arr_elab.specs.Outcome.{by_form, prepared, copied, assigned, stored, bound, bind, forget, effect, begin, statement, statements, outcome}
+use Rattle.arr_elab.specs.Outcome.{by_form, prepared, assigned, stored, bound, bind, forget, effect, begin, statement, statements, outcome}
 use Rattle.arr_elab.proofs.Sound.{needed, by_rule}
 use Rattle.arr_elab.proofs.Weighed.{weight_of, weight_form, weight, form_weight, script_weight, script_short}
 use Rattle.arr_elab.proofs.Adding.{count, waits, nothing, Adds, in_turn, at_once, acts_join, written_adds, array_adds, named_adds, literal_adds, unary_adds, cast_adds, power_adds, fold_adds, binary_adds, range_adds, full_adds, index_adds, broadcasted_adds, transposed_adds, reshaped_adds, strided_adds}

@@ -12,7 +12,7 @@ use Rattle.arr_elab.specs.declared.step.Step.TheVariants.{Act, Name, Forget, Don
 use Rattle.arr_elab.specs.Steps.{acts}
 use Rattle.arr_elab.specs.Outcome.{outcome}
 use Rattle.arr_elab.proofs.Tokens.{tokens, Statement, Script, few_of_text}
-use Rattle.arr_record.specs.Flushes.{Written, State, most, cut_list, cut, cut_if, next_op, append, free, free_each, is_named, done, made, after, after_all, nothing_yet, ended, flush_lists}
+use Rattle.arr_record.specs.Flushes.{Written, State, most, cut_list, cut_if, next_op, append, free, free_each, is_named, done, made, after, after_all, nothing_yet, flush_lists}
 
 -- the operations of lists
 abbrev sum : List (List Op) → ℕ
