@@ -1,0 +1,33 @@
+-- The totals that are kept while a script is read: how many names stand for each base, and the live elements.
+use Rattle.std.specs.Prelude.{ℕ, suc, ◌+◌, List, [], ◌∷◌, Bool, ◌||◌, nat_lt, nat_le, cond, map}
+use Rattle.arr_elab.specs.declared.bases.Base.{Base}
+use Rattle.arr_elab.specs.State.{Names, has_base}
+
+-- the bases so far, and the first base of the statement
+pub record Held : Type 0 where
+  pub list : List Base
+  pub first : ℕ
+
+abbrev pub no_base : Base
+no_base = record { length = 0; names = 0 }
+
+abbrev pub lengths : List Base → List ℕ
+lengths bases = map (λ (base : Base). base.length) bases
+
+-- the elements of a base that count
+abbrev pub weight : ℕ → ℕ → Base → ℕ
+weight first b base = cond (nat_le first b || nat_lt 0 base.names) base.length 0
+
+abbrev pub live_by : ℕ → ℕ → List Base → ℕ
+live_by first b [] = 0
+live_by first b (base ∷ bases) = weight first b base + live_by first (suc b) bases
+
+-- how many names stand for a base
+abbrev pub names_of : Names → ℕ → ℕ
+names_of [] b = 0
+names_of (entry ∷ entries) b = cond (has_base b entry.1) 1 0 + names_of entries b
+
+-- the bases from b on, of these lengths
+abbrev pub tally : Names → ℕ → List ℕ → List Base
+tally names b [] = []
+tally names b (n ∷ ns) = record { length = n; names = names_of names b } ∷ tally names (suc b) ns

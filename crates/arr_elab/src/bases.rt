@@ -1,0 +1,163 @@
+//! The bases of a script so far, with how many names stand for each, and the live elements.
+
+ghost use Rattle.std.specs.Prelude.{◌≡◌, ◌<◌, ◌≤◌, ◌+◌, ◌-◌, [], ◌∷◌, ◌++◌, OnOk, get_or, length, not, nat_lt, slice_set};
+ghost use Rattle.arr_elab.specs.State.{most_live};
+ghost use Rattle.arr_elab.specs.Totals.{lengths, live_by, no_base, weight};
+
+use arr_overlap::NoMemory;
+use std::alloc::Global;
+use std::marker::Model;
+
+/// A base: how many elements it has, and how many names stand for it.
+#[derive(Clone, Copy, Debug)]
+pub(crate) struct Base {
+    length: u32,
+    names: u32,
+}
+
+/// All bases so far, and the first of the statement that is read. The live elements are counted as they change.
+#[derive(Drop)]
+pub(crate) struct Bases {
+    list: Vec<Base>,
+    first: usize,
+    live: u64,
+}
+
+impl Model for Bases {
+    ghost use Rattle.std.specs.Prelude.{◌≡◌, ◌≤◌, length};
+    ghost use Rattle.arr_elab.specs.Totals.{Held, live_by};
+
+    ghost Value = { Held };
+
+    ghost view = { λ b. record { list = b.list.items; first = b.first } };
+
+    ghost invariant = { λ b. (b.first ≤ length b.list.items) × (b.live ≡ live_by b.first 0 b.list.items) };
+}
+
+/// The live elements are at most so many.
+const MOST_LIVE: u64 = 16_777_216;
+
+/// The elements of a base that count: all, where the statement made it or a name stands for it.
+fn weight(first: usize, at: usize, base: Base) -> u32
+    ensures { result ≡ weight first at base }
+{
+    if at >= first || base.names > 0 {
+        base.length
+    } else {
+        0
+    }
+}
+
+impl Bases {
+    pub(crate) fn new(alloc: Global) -> Bases
+        ensures { result ≡ record { list = []; first = 0 } }
+    {
+        Bases {
+            list: Vec::new(alloc),
+            first: 0,
+            live: 0,
+        }
+    }
+
+    /// How many bases there are.
+    pub(crate) fn count(&self) -> usize
+        ensures { result ≡ length self.now.list }
+    {
+        self.list.len()
+    }
+
+    /// How many elements a base has; 0 where there is no such base.
+    pub(crate) fn length(&self, base: u32) -> u32
+        ensures { result ≡ get_or (lengths self.now.list) base 0 }
+    {
+        match self.list.get(base as usize) {
+            Some(base) => base.length,
+            None => 0,
+        }
+    }
+
+    /// Whether so many elements may be made.
+    pub(crate) fn has_room(&self, count: u32) -> bool
+        ensures { result ≡ not (nat_lt most_live (live_by self.now.first 0 self.now.list + count)) }
+    {
+        self.live <= MOST_LIVE && self.live + u64::from(count) <= MOST_LIVE
+    }
+
+    /// Makes a base of so many elements, for which no name stands.
+    pub(crate) fn make(&mut self, count: u32) -> Result<(), NoMemory>
+        requires { live_by self.old.first 0 self.old.list + count ≤ most_live }
+        ensures { OnOk result (self.new ≡ record { list = self.old.list ++ (record { length = count; names = 0 }) ∷ []; first = self.old.first }) }
+    {
+        let _live = self.live;
+        self.list.push(Base {
+            length: count,
+            names: 0,
+        })?;
+        self.live += u64::from(count);
+        Ok(())
+    }
+
+    /// Puts another base in the place of one.
+    fn replace(&mut self, at: usize, base: Base) -> Result<(), NoMemory>
+        requires { at < length self.old.list }
+        ensures { OnOk result (self.new ≡ record { list = slice_set self.old.list at base; first = self.old.first }) }
+    {
+        let rest = self.live - u64::from(weight(self.first, at, self.list[at]));
+        let Some(live) = rest.checked_add(u64::from(weight(self.first, at, base))) else {
+            return Err(NoMemory);
+        };
+        self.list[at] = base;
+        self.live = live;
+        Ok(())
+    }
+
+    /// One more name stands for a base.
+    pub(crate) fn hold(&mut self, base: u32) -> Result<(), NoMemory>
+        requires { base < length self.old.list }
+        ensures { OnOk result (let old = get_or self.old.list base no_base in self.new ≡ record { list = slice_set self.old.list base (record { length = old.length; names = old.names + 1 }); first = self.old.first }) }
+    {
+        let Base { length, names } = self.list[base as usize];
+        let Some(names) = names.checked_add(1) else {
+            return Err(NoMemory);
+        };
+        self.replace(base as usize, Base { length, names })
+    }
+
+    /// One name less stands for a base.
+    pub(crate) fn release(&mut self, base: u32) -> Result<(), NoMemory>
+        requires base { base < length self.old.list }
+        requires held { 0 < (get_or self.old.list base no_base).names }
+        ensures { OnOk result (let old = get_or self.old.list base no_base in self.new ≡ record { list = slice_set self.old.list base (record { length = old.length; names = old.names - 1 }); first = self.old.first }) }
+    {
+        let Base { length, names } = self.list[base as usize];
+        self.replace(
+            base as usize,
+            Base {
+                length,
+                names: names - 1,
+            },
+        )
+    }
+
+    /// The first base of the statement is of an earlier one from here on.
+    fn age(&mut self)
+        requires { self.old.first < length self.old.list }
+        ensures { self.new ≡ record { list = self.old.list; first = self.old.first + 1 } }
+    {
+        let base = self.list[self.first];
+        let kept = weight(self.first + 1, self.first, base);
+        let lost = base.length - kept;
+        self.live -= u64::from(lost);
+        self.first += 1;
+    }
+
+    /// A statement begins: all bases so far are of earlier ones.
+    pub(crate) fn begin(&mut self)
+        ensures { self.new ≡ record { list = self.old.list; first = length self.old.list } }
+    {
+        let count = self.list.len();
+        while self.first < count {
+            self.age();
+        }
+    }
+}

@@ -1,0 +1,11 @@
+//! From the tree of a script to its steps.
+#![tactic(auto)]
+
+mod bases;
+mod fault;
+mod step;
+mod value;
+
+pub use fault::ElabFault;
+pub use step::Step;
+pub(crate) use value::{Array, Pending, Prepared, Value};

@@ -1,0 +1,38 @@
+//! What expressions stand for.
+
+use arr_num::Elem;
+use arr_ops::Op;
+use arr_syntax::Place;
+use arr_view::{Shape, View};
+
+/// A view, and the type of its base.
+#[derive(Debug, Drop)]
+pub(crate) struct Array {
+    pub(crate) view: View,
+    pub(crate) elem: Elem,
+}
+
+/// What an expression stands for, once its operations are recorded.
+#[derive(Debug, Drop)]
+pub(crate) enum Value {
+    /// A literal, and the place of its first token.
+    Literal { at: Place, number: i128 },
+    Array(Array),
+}
+
+/// An operation that is not recorded yet, since it is open what it writes: its output is none.
+#[derive(Debug, Drop)]
+pub(crate) struct Pending {
+    /// The sign or word that it stands for.
+    pub(crate) at: Place,
+    /// The shape of its results.
+    pub(crate) shape: Shape,
+    pub(crate) op: Op,
+}
+
+/// What an expression stands for before its outermost operation is recorded.
+#[derive(Debug, Drop)]
+pub(crate) enum Prepared {
+    Ready(Value),
+    Open(Pending),
+}

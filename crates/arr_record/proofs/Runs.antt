@@ -1,0 +1,122 @@
+-- Lists and operations, one more at the end.
+use Rattle.std.proofs.Common.{◌≡◌, ◌≢◌, ℕ, ◌+◌, ◌<◌, ◌≤◌, zero, suc, List, [], ◌∷◌, ◌++◌, Bool, true, false, ◌&&◌, ◌⊎◌, inl, inr, ⊎_elim, refl, ap, ap₂, sym, subst, ◌∙◌, arith, Option, Some, None, length, length-append, append_assoc, append-nil, cond}
+use Rattle.std.proofs.lemmas.Bool.{ne_eqb, eq-eqb}
+use Rattle.std.proofs.lemmas.Grind.{flat_map-append}
+use Rattle.std.specs.List.{flat_map, range_with_len}
+use Rattle.std.specs.Option.{option_to_list}
+use Rattle.std.specs.Prelude.{◌==◌}
+use Rattle.arr_num.specs.declared.code.Code.{Code}
+use Rattle.arr_num.specs.declared.code.Code.TheVariants.{Sync}
+use Rattle.arr_ops.specs.declared.op.Op.{Op}
+use Rattle.arr_ops.specs.Memory.{Memory, Slot, eager, step, computed, lengths_of, slot_after}
+use Rattle.arr_ops.specs.Fits.{fits}
+use Rattle.arr_ops.proofs.Tests.{both_left, both_right}
+use Rattle.arr_elab.specs.Steps.{printed, slot_count, slots_to, slot_from, next_slot}
+use Rattle.arr_record.specs.Runs.{after_list, after_lists, printed_lists, each_fits}
+
+-- ---- memory
+
+pub eager_append : (m : Memory) (fs gs : List Op) → eager m (fs ++ gs) ≡ eager (eager m fs) gs
+eager_append m [] gs = refl
+eager_append m (f ∷ fs) gs = eager_append (step m f) fs gs
+
+pub after_lists_more : (m : Memory) (lists : List (List Op)) (list : List Op) → after_lists m (lists ++ list ∷ []) ≡ after_list (after_lists m lists) list
+after_lists_more m [] list = refl
+after_lists_more m (l ∷ ls) list = after_lists_more (after_list m l) ls list
+
+pub printed_lists_more : (m : Memory) (lists : List (List Op)) (list : List Op) → printed_lists m (lists ++ list ∷ []) ≡ printed_lists m lists ++ printed (after_lists m lists) list
+printed_lists_more m [] list = append-nil (printed m list)
+printed_lists_more m (l ∷ ls) list =
+    ap (λ ss. printed m l ++ ss) (printed_lists_more (after_list m l) ls list)
+    ∙ sym (append_assoc (printed m l) (printed_lists (after_list m l) ls) (printed (after_lists (after_list m l) ls) list))
+
+pub each_fits_more : (m : Memory) (lists : List (List Op)) (list : List Op) → each_fits m lists ≡ true → fits (after_lists m lists) list ≡ true → each_fits m (lists ++ list ∷ []) ≡ true
+each_fits_more m [] list a b = ap₂ (λ x y. x && y) b refl
+each_fits_more m (l ∷ ls) list a b =
+    ap₂ (λ x y. x && y) (both_left (fits m l) _ a) (each_fits_more (after_list m l) ls list (both_right (fits m l) _ a) b)
+
+-- ---- slots
+
+pub slot_cases : (next : ℕ) (code : Code) → ((slot_from next code ≡ None) × (next_slot next code ≡ next)) ⊎ ((slot_from next code ≡ Some next) × (next_slot next code ≡ suc next))
+slot_cases next Sync = inr (refl, refl)
+slot_cases next _ = inl (refl, refl)
+
+pub slot_count_more : (ops : List Op) (op : Op) → slot_count (ops ++ op ∷ []) ≡ slot_count ops + length (option_to_list op.slot)
+slot_count_more ops op =
+    let slots : Op → List ℕ = λ (f : Op). option_to_list f.slot in
+    ap length (flat_map-append slots ops (op ∷ []) ∙ ap (λ xs. flat_map slots ops ++ xs) (append-nil (option_to_list op.slot))) ∙ length-append (flat_map slots ops) (option_to_list op.slot)
+
+pub next_slot_is : (ops : List Op) (op : Op) → op.slot ≡ slot_from (suc (slot_count ops)) op.code → next_slot (suc (slot_count ops)) op.code ≡ suc (slot_count (ops ++ op ∷ []))
+next_slot_is ops op e =
+    let more : slot_count (ops ++ op ∷ []) ≡ slot_count ops + length (option_to_list op.slot) = slot_count_more ops op in
+    ⊎_elim
+    (λ h. let none : length (option_to_list op.slot) ≡ 0 = ap (λ s. length (option_to_list s)) (e ∙ h.0) in h.1 ∙ omega arith)
+    (λ h. let one : length (option_to_list op.slot) ≡ 1 = ap (λ s. length (option_to_list s)) (e ∙ h.0) in h.1 ∙ omega arith)
+    (slot_cases (suc (slot_count ops)) op.code)
+
+-- what an operation puts into a slot
+abbrev pub shown_at : Option ℕ → Slot → List Slot
+shown_at None new = []
+shown_at (Some s) new = new ∷ []
+
+abbrev pub content : Memory → Op → Slot
+content m op = record { elem = op.from; lengths = lengths_of op.first; numbers = computed m op }
+
+pub range_more : (a n : ℕ) → range_with_len a (suc n) ≡ range_with_len a n ++ (a + n) ∷ []
+range_more a zero = ap (λ k. k ∷ []) (omega arith)
+range_more a (suc n) = ap (λ xs. a ∷ xs) (range_more (a + 1) n ∙ ap (λ k. range_with_len (a + 1) n ++ k ∷ []) (omega arith))
+
+slots_alike : (m k : Memory) (a n : ℕ) → ((s : ℕ) → s < a + n → m.slots s ≡ k.slots s)
+    → flat_map (λ s. option_to_list (m.slots s)) (range_with_len a n) ≡ flat_map (λ s. option_to_list (k.slots s)) (range_with_len a n)
+slots_alike m k a zero h = refl
+slots_alike m k a (suc n) h =
+    ap₂ (λ x ys. option_to_list x ++ ys) (h a (omega arith)) (slots_alike m k (a + 1) n (λ s l. h s (omega arith)))
+
+slots_more : (m : Memory) (op : Op) (n : ℕ) → op.slot ≡ Some (suc n) → slots_to (suc n) (step m op) ≡ slots_to n m ++ content m op ∷ []
+slots_more m op n e =
+    let next : Memory = step m op in
+    let slots : ℕ → List Slot = λ s. option_to_list (next.slots s) in
+    let kept : (s : ℕ) → s < 1 + n → next.slots s ≡ m.slots s =
+    (λ s l. let ne : suc n ≢ s = omega arith in ap (λ k. slot_after k (content m op) s (m.slots s)) e ∙ ap (λ b. cond b (Some (content m op)) (m.slots s)) (ne_eqb (suc n) s ne)) in
+    let filled : next.slots (1 + n) ≡ Some (content m op) =
+    ap (λ k. slot_after k (content m op) (1 + n) (m.slots (1 + n))) e ∙ ap (λ b. cond b (Some (content m op)) (m.slots (1 + n))) (eq-eqb (suc n) (1 + n) (omega arith)) in
+    ap (flat_map slots) (range_more 1 n) ∙ flat_map-append slots (range_with_len 1 n) ((1 + n) ∷ [])
+    ∙ ap₂ (λ xs ys. xs ++ ys) (slots_alike next m 1 n kept) (append-nil (slots (1 + n)) ∙ ap option_to_list filled)
+
+slots_kept : (m : Memory) (op : Op) (n : ℕ) → op.slot ≡ None → slots_to n (step m op) ≡ slots_to n m
+slots_kept m op n e =
+    let next : Memory = step m op in
+    slots_alike next m 1 n (λ s l. ap (λ k. slot_after k (content m op) s (m.slots s)) e)
+
+-- one more operation prints what it shows
+pub printed_more : (m : Memory) (ops : List Op) (op : Op) → op.slot ≡ slot_from (suc (slot_count ops)) op.code
+    → printed m (ops ++ op ∷ []) ≡ printed m ops ++ shown_at op.slot (content (eager m ops) op)
+printed_more m ops op e =
+    let n : ℕ = slot_count ops in
+    let more : slot_count (ops ++ op ∷ []) ≡ n + length (option_to_list op.slot) = slot_count_more ops op in
+    ap (slots_to (slot_count (ops ++ op ∷ []))) (eager_append m ops (op ∷ []))
+    ∙ ⊎_elim
+    (λ h.
+        let none : op.slot ≡ None = e ∙ h.0 in
+        let zero_more : length (option_to_list op.slot) ≡ 0 = ap (λ s. length (option_to_list s)) none in
+        ap (λ k. slots_to k (step (eager m ops) op)) (let same : slot_count (ops ++ op ∷ []) ≡ n = omega arith in same)
+        ∙ slots_kept (eager m ops) op n none ∙ sym (append-nil (slots_to n (eager m ops))) ∙ ap (λ s. slots_to n (eager m ops) ++ shown_at s (content (eager m ops) op)) (sym none))
+    (λ h.
+        let some : op.slot ≡ Some (suc n) = e ∙ h.0 in
+        let one_more : length (option_to_list op.slot) ≡ 1 = ap (λ s. length (option_to_list s)) some in
+        ap (λ k. slots_to k (step (eager m ops) op)) (let same : slot_count (ops ++ op ∷ []) ≡ suc n = omega arith in same)
+        ∙ slots_more (eager m ops) op n some ∙ ap (λ s. slots_to n (eager m ops) ++ shown_at s (content (eager m ops) op)) (sym some))
+    (slot_cases (suc n) op.code)
+
+pub slot_count_few : (ops : List Op) → slot_count ops ≤ length ops
+slot_count_few [] = omega arith
+slot_count_few (op ∷ ops) =
+    let rest : slot_count ops ≤ length ops = slot_count_few ops in
+    let both : slot_count (op ∷ ops) ≡ length (option_to_list op.slot) + slot_count ops =
+    length-append (option_to_list op.slot) (flat_map (λ (f : Op). option_to_list f.slot) ops) in
+    let one : length (option_to_list op.slot) ≤ 1 = at_most op.slot in
+    omega arith
+  where
+    at_most : (s : Option ℕ) → length (option_to_list s) ≤ 1
+    at_most None = omega arith
+    at_most (Some s) = omega arith

@@ -1,0 +1,332 @@
+-- From the steps of a recording to the laws of its lists.
+use Rattle.std.proofs.Common.{◌≡◌, ℕ, ◌+◌, ◌<◌, ◌≤◌, suc, List, [], ◌∷◌, ◌++◌, Bool, true, false, cond, not, ◌||◌, ◌&&◌, ◌⊎◌, inl, inr, ⊎_elim, refl, ap, ap₂, sym, subst, ◌∙◌, arith, length, length-append, append_assoc, append-nil, map, Option, Some, None}
+use Rattle.std.proofs.lemmas.Bool.{false≢true, eqb-true, eq-eqb, ltb-true, ltb-false, le-ltb, leb-true}
+use Rattle.std.proofs.lemmas.List.Folds.{list_any-append}
+use Rattle.std.specs.Prelude.{◌==◌, nat_lt, nat_le, is_some}
+use Rattle.std.specs.List.{AllByRecursion, list_any, list_all, filter}
+use Rattle.std.specs.Option.{option_to_list, option_and_then}
+use Rattle.arr_num.specs.declared.elem.Elem.{Elem}
+use Rattle.arr_num.specs.declared.code.Code.{Code}
+use Rattle.arr_num.specs.declared.code.Code.TheVariants.{Sync}
+use Rattle.arr_view.specs.Strided.{Strided}
+use Rattle.arr_view.specs.Views.{has, positions}
+use Rattle.arr_ops.specs.declared.op.Op.{Op}
+use Rattle.arr_ops.specs.Ops.{outputs, inputs, freed, makes_base}
+use Rattle.arr_ops.specs.Memory.{Memory, Slot, eager, step, empty, computed}
+use Rattle.arr_ops.proofs.Pairs.{Pairs, All_weaker, Pairs_weaker, All_filter, Pairs_filter}
+use Rattle.arr_ops.proofs.Tests.{or_cases, both_left, both_right}
+use Rattle.arr_ops.proofs.Fits.{or_first, or_second}
+use Rattle.arr_ops.proofs.FitsLaw.{all_append, all_map}
+use Rattle.arr_elab.specs.declared.step.Step.{Step}
+use Rattle.arr_elab.specs.declared.step.Step.TheVariants.{Act, Name, Forget, Done, Cut}
+use Rattle.arr_elab.specs.Steps.{acts, slotted, printed, slot_count, slot_from, next_slot, with_slot}
+use Rattle.arr_elab.specs.Recording.{Scene, opening, is_live, may_act, made_by, other_names, after_step, after_steps, is_recording, allowed}
+use Rattle.arr_record.specs.Flushes.{State, nothing_yet, most, cut, cut_if, append, next_op, made, done, is_named, unnamed, free_each, after, after_all, ended, flush_lists}
+use Rattle.arr_record.specs.Runs.{after_lists, printed_lists, each_fits}
+use Rattle.arr_record.proofs.Runs.{eager_append, printed_more, next_slot_is, shown_at, content}
+use Rattle.arr_record.proofs.Home.{Home, place_of, place_more, all_with, typed_parts, TypedAmong}
+use Rattle.arr_record.proofs.Cells.{computed_alike, left_alike}
+use Rattle.arr_record.proofs.Joined.{Allowed, pairs_more}
+use Rattle.arr_record.proofs.Kept.{Kept, Lawful, start_of, now_of, live_after, kept_more, not_true}
+use Rattle.arr_record.proofs.Recorded.{Recorded, recorded}
+use Rattle.arr_record.proofs.Freed.{Going, settled, going_cut, going_frees, going_alike, lives, live_without, lives_kept, rest_lives, all_live, Lives}
+
+abbrev pub TypesOf : List (ℕ × Elem) → List (ℕ × Elem) → Type 0
+TypesOf bases live = AllByRecursion (λ (base : ℕ × Elem). base.1 ≡ (place_of bases base.0).1) live
+
+abbrev pub Rising : List (ℕ × Elem) → Type 0
+Rising live = Pairs (λ (x y : ℕ × Elem). x.0 < y.0) live
+
+-- after some steps, beside what a recording keeps to
+pub record Walked (scene : Scene) (past : List Op) (s : State) : Type 0 where
+  pub going : Going scene.bases (lives s.live) past s.written
+  pub names : s.names ≡ scene.names
+  pub live : (b : ℕ) → is_live scene b ≡ true → lives s.live b ≡ true
+  pub types : TypesOf scene.bases s.live
+  pub rising : Rising s.live
+
+-- ---- an operation
+
+shown_alike : (code : Code) (i j : ℕ) (x y : Slot) → x ≡ y → shown_at (slot_from i code) x ≡ shown_at (slot_from j code) y
+shown_alike Sync i j x y e = ap (λ s. s ∷ []) e
+shown_alike _ i j x y e = refl
+
+abbrev made_at : Elem → Option Strided → Bool → List (ℕ × Elem)
+made_at t out makes = map (λ (o : Strided). (o.base, t)) (filter (λ _. makes) (option_to_list out))
+
+made_lives : (t : Elem) (out : Option Strided) (makes : Bool) (b : ℕ) → (makes && list_any (λ (o : Strided). o.base == b) (option_to_list out)) ≡ lives (made_at t out makes) b
+made_lives t None true b = refl
+made_lives t None false b = refl
+made_lives t (Some o) true b = refl
+made_lives t (Some o) false b = refl
+
+-- live before or made is live after
+lives_more : (live : List (ℕ × Elem)) (op : Op) (b : ℕ) → op.frees ≡ None → live_after (lives live) op b ≡ lives (live ++ made op) b
+lives_more live op b free =
+    ap (λ f. (lives live b || makes_base op b) && not (has (option_to_list f) b)) free ∙ and_true (lives live b || makes_base op b)
+    ∙ ap (λ t. lives live b || t) (made_lives op.to op.out op.makes b) ∙ sym (list_any-append (λ (base : ℕ × Elem). base.0 == b) live (made op))
+  where
+    and_true : (x : Bool) → (x && true) ≡ x
+    and_true true = refl
+    and_true false = refl
+
+-- the next base is made
+next_lives : (bases : List (ℕ × Elem)) (t : Elem) (out : Option Strided) (makes : Bool) (b : ℕ) → (makes ≡ true → AllByRecursion (λ (o : Strided). o.base ≡ length bases) (option_to_list out))
+    → length bases ≤ b → b < length (bases ++ map (λ (o : Strided). (positions o.lengths, t)) (filter (λ _. makes) (option_to_list out))) → lives (made_at t out makes) b ≡ true
+next_lives bases t None makes b h l m = absurd (let e : length (bases ++ []) ≡ length bases = ap length (append-nil bases) in omega arith)
+next_lives bases t (Some o) false b h l m = absurd (let e : length (bases ++ []) ≡ length bases = ap length (append-nil bases) in omega arith)
+next_lives bases t (Some o) true b h l m =
+    let p : ℕ × Elem = (positions o.lengths, t) in
+    let n : length (bases ++ p ∷ []) ≡ length bases + 1 = length-append bases (p ∷ []) in
+    let next : o.base ≡ length bases = (h refl).0 in
+    or_first (o.base == b) false (eq-eqb o.base b (omega arith))
+
+rising_made : (bases : List (ℕ × Elem)) (live : List (ℕ × Elem)) (t : Elem) (out : Option Strided) (makes : Bool) → (makes ≡ true → AllByRecursion (λ (o : Strided). o.base ≡ length bases) (option_to_list out))
+    → AllByRecursion (λ (base : ℕ × Elem). base.0 < length bases) live → Rising live → Rising (live ++ made_at t out makes)
+rising_made bases live t None makes h l r = subst Rising (sym (append-nil live)) r
+rising_made bases live t (Some o) false h l r = subst Rising (sym (append-nil live)) r
+rising_made bases live t (Some o) true h l r =
+    let next : o.base ≡ length bases = (h refl).0 in
+    pairs_more (λ (x y : ℕ × Elem). x.0 < y.0) live (o.base, t) r
+    (All_weaker (λ (base : ℕ × Elem). base.0 < length bases) (λ (base : ℕ × Elem). base.0 < o.base) (λ base k. omega arith) live l)
+
+abbrev scene_after : Scene → Op → Scene
+scene_after scene op = record scene { bases = scene.bases ++ made_by op }
+
+module _ (scene : Scene) (past : List Op) (s : State) (op : Op) (w : Walked scene past s) (may : may_act scene op ≡ true) where
+  r : Recorded scene (lives s.live) op (next_op s.written.waiting op)
+  r = recorded scene (lives s.live) op (suc (slot_count s.written.waiting)) w.live may
+
+  k : Kept scene.bases (lives s.live) past s.written.lists s.written.waiting
+  k = w.going.kept
+
+  same_numbers : computed (now_of s.written.lists s.written.waiting) op ≡ computed (eager empty past) op
+  same_numbers =
+      computed_alike (now_of s.written.lists s.written.waiting) (eager empty past) op
+      (All_weaker (λ (v : Strided). lives s.live v.base ≡ true) (λ (v : Strided). (now_of s.written.lists s.written.waiting).bases v.base ≡ (eager empty past).bases v.base) (λ v t. k.same v.base t) (inputs op) r.allowed.reads)
+
+  same_bases : (b : ℕ) → live_after (lives s.live) (next_op s.written.waiting op) b ≡ true
+      → (step (now_of s.written.lists s.written.waiting) (next_op s.written.waiting op)).bases b ≡ (eager empty (past ++ next_op past op ∷ [])).bases b
+  same_bases b h =
+      left_alike op (computed (now_of s.written.lists s.written.waiting) op) (computed (eager empty past) op) b ((now_of s.written.lists s.written.waiting).bases b) ((eager empty past).bases b) same_numbers
+      (or_cases (lives s.live b) (makes_base op b) (both_left (lives s.live b || makes_base op b) _ h) (λ t. inr (k.same b t)) (λ t. inl t))
+      (ap (λ f. has (option_to_list f) b) r.no_free)
+      ∙ ap (λ (m : Memory). m.bases b) (sym (eager_append empty past (next_op past op ∷ [])))
+
+  same_prints : printed empty past ++ shown_at (next_op s.written.waiting op).slot (content (now_of s.written.lists s.written.waiting) (next_op s.written.waiting op)) ≡ printed empty (past ++ next_op past op ∷ [])
+  same_prints =
+      ap (λ ss. printed empty past ++ ss)
+      (shown_alike op.code (suc (slot_count s.written.waiting)) (suc (slot_count past)) (content (now_of s.written.lists s.written.waiting) op) (content (eager empty past) op)
+      (ap (λ xs. record (content (now_of s.written.lists s.written.waiting) op) { numbers = xs }) same_numbers))
+      ∙ sym (printed_more empty past (next_op past op) refl)
+
+  kept_after : Kept (scene.bases ++ made_by op) (lives (s.live ++ made op)) (past ++ next_op past op ∷ []) s.written.lists (s.written.waiting ++ next_op s.written.waiting op ∷ [])
+  kept_after =
+      let live_is : live_after (lives s.live) (next_op s.written.waiting op) ≡ lives (s.live ++ made op) = (λ i b. lives_more s.live op b r.no_free i) in
+      subst (λ live. Kept (scene.bases ++ made_by op) live (past ++ next_op past op ∷ []) s.written.lists (s.written.waiting ++ next_op s.written.waiting op ∷ [])) live_is
+      (kept_more scene.bases (lives s.live) past s.written.lists s.written.waiting (next_op s.written.waiting op) k r.allowed r.home (past ++ next_op past op ∷ []) refl w.going.short same_bases same_prints)
+
+  below : AllByRecursion (λ (base : ℕ × Elem). base.0 < length scene.bases) s.live
+  below = All_weaker (λ (base : ℕ × Elem). lives s.live base.0 ≡ true) (λ (base : ℕ × Elem). base.0 < length scene.bases) (λ base t. k.below base.0 t) s.live (all_live s.live)
+
+  types_after : TypesOf (scene.bases ++ made_by op) (s.live ++ made op)
+  types_after =
+      all_append (λ (base : ℕ × Elem). base.1 ≡ (place_of (scene.bases ++ made_by op) base.0).1) s.live (made op)
+      (all_with (λ (base : ℕ × Elem). base.0 < length scene.bases) (λ (base : ℕ × Elem). base.1 ≡ (place_of scene.bases base.0).1) (λ (base : ℕ × Elem). base.1 ≡ (place_of (scene.bases ++ made_by op) base.0).1)
+      (λ base l t. t ∙ ap (λ (q : ℕ × Elem). q.1) (sym (place_more scene.bases (made_by op) base.0 l))) s.live below w.types)
+      (all_map (λ (base : ℕ × Elem). base.1 ≡ (place_of (scene.bases ++ made_by op) base.0).1) (λ (o : Strided). (o.base, op.to)) (filter (λ _. op.makes) (outputs op))
+      (All_filter (λ (o : Strided). op.to ≡ (place_of (scene.bases ++ made_by op) o.base).1) (λ _. op.makes) (outputs op)
+      (All_weaker (λ (o : Strided). TypedAmong (scene.bases ++ made_by op) (o.base, op.to)) (λ (o : Strided). op.makes ≡ true → op.to ≡ (place_of (scene.bases ++ made_by op) o.base).1) (λ o t _. t.1) (outputs op)
+      (typed_parts (TypedAmong (scene.bases ++ made_by op)) (next_op s.written.waiting op) r.home.typed_there).0)))
+
+  live_then : (b : ℕ) → is_live (scene_after scene op) b ≡ true → lives (s.live ++ made op) b ≡ true
+  live_then b h =
+      let l : b < length (scene.bases ++ made_by op) = ltb-true b (length (scene.bases ++ made_by op)) (both_left (nat_lt b (length (scene.bases ++ made_by op))) _ h) in
+      list_any-append (λ (base : ℕ × Elem). base.0 == b) s.live (made op)
+      ∙ elim (nat_lt b (length scene.bases)) as (λ t. nat_lt b (length scene.bases) ≡ t → (lives s.live b || lives (made op) b) ≡ true) [
+        | true ↦ λ e. or_first (lives s.live b) _ (w.live b (ap₂ (λ x y. x && y) e (both_right (nat_lt b (length (scene.bases ++ made_by op))) _ h)))
+        | false ↦ λ e. or_second (lives s.live b) _ (next_lives scene.bases op.to op.out op.makes b r.allowed.makes (ltb-false b (length scene.bases) e) l)
+      ] refl
+
+  pub walked_act : Walked (scene_after scene op) (past ++ next_op past op ∷ []) (after s (Act op))
+  walked_act =
+      record {
+        going = settled (scene.bases ++ made_by op) (lives (s.live ++ made op)) (past ++ next_op past op ∷ [])
+            (record { lists = s.written.lists; waiting = s.written.waiting ++ next_op s.written.waiting op ∷ [] }) kept_after;
+        names = w.names;
+        live = live_then;
+        types = types_after;
+        rising = rising_made scene.bases s.live op.to op.out op.makes r.allowed.makes below w.rising;
+      }
+
+-- ---- names
+
+any_filter : {X : Type 0} (p q : X → Bool) (xs : List X) → list_any p (filter q xs) ≡ true → list_any p xs ≡ true
+any_filter p q [] h = h
+any_filter p q (x ∷ xs) h =
+    elim (q x) as (λ t. list_any p (cond t (x ∷ filter q xs) (filter q xs)) ≡ true → (p x || list_any p xs) ≡ true) [
+      | true ↦ λ k. or_cases (p x) (list_any p (filter q xs)) k (or_first (p x) (list_any p xs)) (λ t. or_second (p x) _ (any_filter p q xs t))
+      | false ↦ λ k. or_second (p x) _ (any_filter p q xs k)
+    ] h
+
+abbrev stands_for : List (ℕ × ℕ) → ℕ → Bool
+stands_for names b = list_any (λ (name : ℕ × ℕ). name.1 == b) names
+
+-- what is live under other names was live before
+live_before : (scene : Scene) (names : List (ℕ × ℕ)) (b : ℕ) → (stands_for names b ≡ true → is_live scene b ≡ true) → is_live (record scene { names = names }) b ≡ true → is_live scene b ≡ true
+live_before scene names b f h =
+    let l : nat_lt b (length scene.bases) ≡ true = both_left (nat_lt b (length scene.bases)) _ h in
+    or_cases (nat_le scene.first b) (stands_for names b) (both_right (nat_lt b (length scene.bases)) _ h)
+    (λ t. ap₂ (λ x y. x && y) l (or_first (nat_le scene.first b) (stands_for scene.names b) t)) f
+
+other_before : (scene : Scene) (n b : ℕ) → nat_lt b (length scene.bases) ≡ true → stands_for (other_names n scene.names) b ≡ true → is_live scene b ≡ true
+other_before scene n b l t =
+    ap₂ (λ x y. x && y) l (or_second (nat_le scene.first b) _ (any_filter (λ (name : ℕ × ℕ). name.1 == b) (λ (name : ℕ × ℕ). not (name.0 == n)) scene.names t))
+
+renamed : (scene : Scene) (past : List Op) (s : State) (names : List (ℕ × ℕ)) → Walked scene past s → ((b : ℕ) → is_live (record scene { names = names }) b ≡ true → is_live scene b ≡ true)
+    → Walked (record scene { names = names }) past (record s { names = names })
+renamed scene past s names w f =
+    record {
+      going = w.going;
+      names = refl;
+      live = λ b h. w.live b (f b h);
+      types = w.types;
+      rising = w.rising;
+    }
+
+walked_name : (scene : Scene) (past : List Op) (s : State) (n b : ℕ) → Walked scene past s → is_live scene b ≡ true
+    → Walked (record scene { names = (n, b) ∷ other_names n scene.names }) past (after s (Name n b))
+walked_name scene past s n b w alive =
+    subst (λ names. Walked (record scene { names = (n, b) ∷ other_names n scene.names }) past (record s { names = (n, b) ∷ other_names n names })) (sym w.names)
+    (renamed scene past s ((n, b) ∷ other_names n scene.names) w
+    (λ c h. live_before scene ((n, b) ∷ other_names n scene.names) c
+    (λ t. or_cases (b == c) (stands_for (other_names n scene.names) c) t (λ e. ap (is_live scene) (sym (eqb-true b c e)) ∙ alive)
+    (other_before scene n c (both_left (nat_lt c (length scene.bases)) _ h))) h))
+
+walked_forget : (scene : Scene) (past : List Op) (s : State) (n : ℕ) → Walked scene past s → Walked (record scene { names = other_names n scene.names }) past (after s (Forget n))
+walked_forget scene past s n w =
+    subst (λ names. Walked (record scene { names = other_names n scene.names }) past (record s { names = other_names n names })) (sym w.names)
+    (renamed scene past s (other_names n scene.names) w
+    (λ c h. live_before scene (other_names n scene.names) c (other_before scene n c (both_left (nat_lt c (length scene.bases)) _ h)) h))
+
+-- ---- the end of a statement
+
+going_done : (bases : List (ℕ × Elem)) (past : List Op) (s : State) → Going bases (lives s.live) past s.written → TypesOf bases s.live → Rising s.live
+    → Going bases (lives (done s).live) past (done s).written
+going_done bases past s g types rising =
+    let test : ℕ → Bool = stands_for s.names in
+    let pairs : Pairs (λ (x y : ℕ × Elem). x.0 < y.0) (unnamed s.names s.live) =
+    Pairs_filter (λ (x y : ℕ × Elem). x.0 < y.0) (λ (base : ℕ × Elem). not (test base.0)) s.live
+    (Pairs_weaker (λ (x y : ℕ × Elem). x.0 < y.0) (λ (x y : ℕ × Elem). not (test x.0) ≡ true → not (test y.0) ≡ true → x.0 < y.0) (λ x y l _ _. l) s.live rising) in
+    let alive : AllByRecursion (Lives bases (lives s.live)) (unnamed s.names s.live) =
+    All_filter (Lives bases (lives s.live)) (λ (base : ℕ × Elem). not (test base.0)) s.live
+    (all_with (λ (base : ℕ × Elem). lives s.live base.0 ≡ true) (λ (base : ℕ × Elem). base.1 ≡ (place_of bases base.0).1) (λ (base : ℕ × Elem). not (test base.0) ≡ true → Lives bases (lives s.live) base)
+    (λ base l t _. (l, t)) s.live (all_live s.live) types) in
+    going_alike bases (live_without (lives s.live) (unnamed s.names s.live)) (lives (done s).live) past (free_each s.written (unnamed s.names s.live)) (rest_lives test s.live)
+    (going_frees bases (unnamed s.names s.live) (lives s.live) past s.written pairs alive g)
+
+walked_done : (scene : Scene) (past : List Op) (s : State) → Walked scene past s → Walked (record scene { first = length scene.bases }) past (after s Done)
+walked_done scene past s w =
+    let test : ℕ → Bool = stands_for s.names in
+    record {
+      going = going_done scene.bases past s w.going w.types w.rising;
+      names = w.names;
+      live = λ b h.
+          let l : nat_lt b (length scene.bases) ≡ true = both_left (nat_lt b (length scene.bases)) _ h in
+          let named : stands_for scene.names b ≡ true = (or_cases (nat_le (length scene.bases) b) (stands_for scene.names b) (both_right (nat_lt b (length scene.bases)) _ h)
+          (λ t. absurd (let x : length scene.bases ≤ b = leb-true (length scene.bases) b t in let y : b < length scene.bases = ltb-true b (length scene.bases) l in omega arith)) (λ t. t)) in
+          lives_kept test s.live b
+          ∙ ap₂ (λ x y. x && y) (w.live b (ap₂ (λ x y. x && y) l (or_second (nat_le scene.first b) _ named))) (ap (λ names. stands_for names b) w.names ∙ named);
+      types = All_filter (λ (base : ℕ × Elem). base.1 ≡ (place_of scene.bases base.0).1) (λ (base : ℕ × Elem). test base.0) s.live
+          (All_weaker (λ (base : ℕ × Elem). base.1 ≡ (place_of scene.bases base.0).1) (λ (base : ℕ × Elem). test base.0 ≡ true → base.1 ≡ (place_of scene.bases base.0).1) (λ base t _. t) s.live w.types);
+      rising = Pairs_filter (λ (x y : ℕ × Elem). x.0 < y.0) (λ (base : ℕ × Elem). test base.0) s.live
+          (Pairs_weaker (λ (x y : ℕ × Elem). x.0 < y.0) (λ (x y : ℕ × Elem). test x.0 ≡ true → test y.0 ≡ true → x.0 < y.0) (λ x y l _ _. l) s.live w.rising);
+    }
+
+walked_cut : (scene : Scene) (past : List Op) (s : State) → Walked scene past s → Walked scene past (after s Cut)
+walked_cut scene past s w = record { going = going_cut scene.bases (lives s.live) past s.written w.going.kept; names = w.names; live = w.live; types = w.types; rising = w.rising }
+
+-- ---- the whole
+
+-- the laws of lists beside the operations of eager execution
+pub record Recording (past : List Op) (lists : List (List Op)) : Type 0 where
+  pub lawful : AllByRecursion Lawful lists
+  pub fitting : each_fits empty lists ≡ true
+  pub prints : printed_lists empty lists ≡ printed empty past
+  pub emptied : (b : ℕ) → (after_lists empty lists).bases b ≡ None
+
+finished : (scene : Scene) (past : List Op) (s : State) → Walked scene past s → Recording past (ended s).lists
+finished scene past s w =
+    let last : State = done (record s { names = [] }) in
+    let g : Going scene.bases (lives last.live) past last.written = going_done scene.bases past (record s { names = [] }) w.going w.types w.rising in
+    let k : Kept scene.bases (lives last.live) past (cut last.written).lists [] = (going_cut scene.bases (lives last.live) past last.written g.kept).kept in
+    record {
+      lawful = k.lawful;
+      fitting = k.fitting;
+      prints = sym (append-nil (printed_lists empty (cut last.written).lists)) ∙ k.prints;
+      emptied = λ b. k.absent b (lives_kept (stands_for []) s.live b ∙ and_false (lives s.live b));
+    }
+  where
+    and_false : (x : Bool) → (x && false) ≡ false
+    and_false true = refl
+    and_false false = refl
+
+walk : (steps : List Step) (scene : Scene) (past : List Op) (s : State) → is_some (after_steps scene steps) ≡ true → Walked scene past s
+    → Recording (past ++ slotted (suc (slot_count past)) (acts steps)) (ended (after_all s steps)).lists
+walk [] scene past s h w = subst (λ ops. Recording ops (ended s).lists) (sym (append-nil past)) (finished scene past s w)
+walk (Act op ∷ steps) scene past s h w =
+    elim (may_act scene op) as (λ t. may_act scene op ≡ t → is_some (option_and_then (λ next. after_steps next steps) (allowed t (scene_after scene op))) ≡ true
+    → Recording (past ++ slotted (suc (slot_count past)) (op ∷ acts steps)) (ended (after_all (after s (Act op)) steps)).lists) [
+      | true ↦ λ e h.
+          let rest : List Op = slotted (next_slot (suc (slot_count past)) op.code) (acts steps) in
+          let same : (past ++ next_op past op ∷ []) ++ slotted (suc (slot_count (past ++ next_op past op ∷ []))) (acts steps) ≡ past ++ next_op past op ∷ rest =
+          ap (λ k. (past ++ next_op past op ∷ []) ++ slotted k (acts steps)) (sym (next_slot_is past (next_op past op) refl)) ∙ append_assoc past (next_op past op ∷ []) rest in
+          subst (λ ops. Recording ops (ended (after_all (after s (Act op)) steps)).lists) same
+          (walk steps (scene_after scene op) (past ++ next_op past op ∷ []) (after s (Act op)) h (walked_act scene past s op w e))
+      | false ↦ λ e h. absurd (false≢true h)
+    ] refl h
+walk (Name n b ∷ steps) scene past s h w =
+    elim (is_live scene b) as (λ t. is_live scene b ≡ t → is_some (option_and_then (λ next. after_steps next steps) (allowed t (record scene { names = (n, b) ∷ other_names n scene.names }))) ≡ true
+    → Recording (past ++ slotted (suc (slot_count past)) (acts steps)) (ended (after_all (after s (Name n b)) steps)).lists) [
+      | true ↦ λ e h. walk steps (record scene { names = (n, b) ∷ other_names n scene.names }) past (after s (Name n b)) h (walked_name scene past s n b w e)
+      | false ↦ λ e h. absurd (false≢true h)
+    ] refl h
+walk (Forget n ∷ steps) scene past s h w = walk steps (record scene { names = other_names n scene.names }) past (after s (Forget n)) h (walked_forget scene past s n w)
+walk (Done ∷ steps) scene past s h w = walk steps (record scene { first = length scene.bases }) past (after s Done) h (walked_done scene past s w)
+walk (Cut ∷ steps) scene past s h w = walk steps scene past (after s Cut) h (walked_cut scene past s w)
+
+begun : Walked opening [] nothing_yet
+begun =
+    record {
+      going = record {
+        kept = record {
+          lawful = tt;
+          fitting = refl;
+          few = omega arith;
+          home = tt;
+          slots = refl;
+          order = tt;
+          fits_start = tt;
+          gone = tt;
+          below = λ b e. absurd (false≢true e);
+          unmade = λ b l. refl;
+          bare = λ s. refl;
+          source = λ b e. absurd (false≢true e);
+          stored = λ b e. absurd (false≢true e);
+          absent = λ b e. refl;
+          same = λ b e. absurd (false≢true e);
+          prints = refl;
+        };
+        short = omega arith;
+      };
+      names = refl;
+      live = λ b h. absurd (false≢true (ap (λ t. t && (nat_le 0 b || false)) (sym (never b)) ∙ h));
+      types = tt;
+      rising = tt;
+    }
+  where
+    never : (b : ℕ) → nat_lt b 0 ≡ false
+    never b = le-ltb b 0 (omega arith)
+
+pub recording : (steps : List Step) → is_recording steps ≡ true → Recording (slotted 1 (acts steps)) (flush_lists steps)
+recording steps h = walk steps opening [] nothing_yet h begun

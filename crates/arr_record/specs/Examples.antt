@@ -1,0 +1,33 @@
+-- Worked steps, by computation.
+use Rattle.std.specs.Prelude.{◌≡◌, refl, List, [], ◌∷◌, true, None}
+use Rattle.arr_num.specs.declared.code.Code.TheVariants.{Range}
+use Rattle.arr_view.specs.Strided.{Strided}
+use Rattle.arr_ops.specs.declared.op.Op.{Op}
+use Rattle.arr_ops.specs.Examples as ops
+use Rattle.arr_elab.specs.declared.step.Step.{Step}
+use Rattle.arr_elab.specs.declared.step.Step.TheVariants.{Act, Name, Forget, Done, Cut}
+use Rattle.arr_elab.specs.Steps.{with_slot}
+use Rattle.arr_record.specs.Flushes.{flush_lists}
+
+abbrev pub count_two : Op
+count_two = ops.operation Range (ops.line 0 2) None None true
+
+-- a SYNC that has no slot yet
+abbrev pub sync_of : Strided → Op
+sync_of v = with_slot (ops.sync v 1) None
+
+-- a = range(2), flush, flush, print a
+abbrev pub twice : List Step
+twice = Act count_two ∷ Name 0 0 ∷ Done ∷ Cut ∷ Done ∷ Cut ∷ Done ∷ Act (sync_of (ops.line 0 2)) ∷ Done ∷ []
+
+-- the second flush finds nothing waiting
+twice_cut : flush_lists twice ≡ (count_two ∷ []) ∷ (ops.sync (ops.line 0 2) 1 ∷ ops.free 0 ∷ []) ∷ []
+twice_cut = refl
+
+-- a = range(2), b = a[0:1], del a, flush, print b
+abbrev pub aliased : List Step
+aliased = Act count_two ∷ Name 0 0 ∷ Done ∷ Name 1 0 ∷ Done ∷ Forget 0 ∷ Done ∷ Cut ∷ Done ∷ Act (sync_of (ops.line 0 1)) ∷ Done ∷ []
+
+-- b still stands for the base
+aliased_cut : flush_lists aliased ≡ (count_two ∷ []) ∷ (ops.sync (ops.line 0 1) 1 ∷ ops.free 0 ∷ []) ∷ []
+aliased_cut = refl
