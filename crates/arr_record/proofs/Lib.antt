@@ -6,3 +6,5 @@ pub mod Kept
 pub mod Recorded
 pub mod Freed
 pub mod Walk
+pub mod Named
+pub mod Loose

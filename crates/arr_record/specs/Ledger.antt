@@ -1,0 +1,48 @@
+-- What is kept of names and bases while steps are read: counts in place of a search through the names.
+use Rattle.std.specs.Prelude.{ℕ, suc, ◌≡◌, ◌<◌, ◌==◌, List, [], ◌∷◌, Bool, true, not, cond, map, length, get_or, slice_index, nat_lt, Option, Some, None}
+use Rattle.std.specs.List.{AllByRecursion, list_any}
+use Rattle.arr_num.specs.declared.elem.Elem.{Elem}
+use Rattle.arr_num.specs.declared.elem.Elem.TheVariants.{U8}
+use Rattle.arr_ops.specs.Formed.{all_pairs}
+use Rattle.arr_record.specs.Flushes.{unnamed}
+
+-- the base of each name, the type of each base made so far, how many names stand for each, and the live bases that no name stands for
+pub record Ledger : Type 0 where
+  pub names : ℕ → Option ℕ
+  pub elems : List Elem
+  pub counts : List ℕ
+  pub loose : List ℕ
+
+abbrev pub base_of : List (ℕ × ℕ) → ℕ → Option ℕ
+base_of [] n = None
+base_of (name ∷ names) n = cond (name.0 == n) (Some name.1) (base_of names n)
+
+-- how many names stand for a base
+abbrev pub names_for : List (ℕ × ℕ) → ℕ → ℕ
+names_for [] b = 0
+names_for (name ∷ names) b = cond (name.1 == b) (suc (names_for names b)) (names_for names b)
+
+abbrev pub lives : List (ℕ × Elem) → ℕ → Bool
+lives live b = list_any (λ (base : ℕ × Elem). base.0 == b) live
+
+-- bases with their types
+abbrev pub with_types : List Elem → List ℕ → List (ℕ × Elem)
+with_types elems bases = map (λ b. (b, get_or elems b U8)) bases
+
+-- the ledger says what the names and the live bases are
+pub record Owned (o : Ledger) (names : List (ℕ × ℕ)) (live : List (ℕ × Elem)) : Type 0 where
+  pub by_name : (n : ℕ) → o.names n ≡ base_of names n
+  pub counted : (b : ℕ) → slice_index o.counts b ≡ names_for names b
+  pub loose : o.loose ≡ map (λ (base : ℕ × Elem). base.0) (unnamed names live)
+  pub even : length o.counts ≡ length o.elems
+  pub types : AllByRecursion (λ (base : ℕ × Elem). get_or o.elems base.0 U8 ≡ base.1) live
+  pub below : AllByRecursion (λ (base : ℕ × Elem). base.0 < length o.elems) live
+  pub held : AllByRecursion (λ (name : ℕ × ℕ). lives live name.1 ≡ true) names
+  pub apart : all_pairs (λ (x y : ℕ × ℕ). not (x.0 == y.0)) names ≡ true
+  pub rising : all_pairs (λ (x y : ℕ × Elem). nat_lt x.0 y.0) live ≡ true
+
+-- it says so of some
+pub record Known (o : Ledger) : Type 0 where
+  pub names : List (ℕ × ℕ)
+  pub live : List (ℕ × Elem)
+  pub owned : Owned o names live
