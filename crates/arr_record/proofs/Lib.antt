@@ -8,3 +8,4 @@ pub mod Freed
 pub mod Walk
 pub mod Named
 pub mod Loose
+pub mod Ledgers
