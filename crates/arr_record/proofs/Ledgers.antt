@@ -5,7 +5,8 @@ use Rattle.std.proofs.lemmas.List.{length-set, get_or_past, get_or_append_left, 
 use Rattle.std.proofs.lemmas.List.Elements.{filter-append}
 use Rattle.std.proofs.lemmas.List.Folds.{list_any-append}
 use Rattle.std.proofs.Math.Seq.{get_or-append_seam}
-use Rattle.std.specs.Prelude.{◌==◌, nat_lt, slice_index}
+use Rattle.std.specs.Prelude.{◌==◌, nat_lt, slice_index, is_some}
+use Rattle.arr_view.specs.Views.{has}
 use Rattle.std.specs.List.{AllByRecursion, list_any, filter}
 use Rattle.std.specs.Ordering.{nat_cmp}
 use Rattle.std.specs.BTreeMap.{is_at}
@@ -20,12 +21,12 @@ use Rattle.arr_ops.proofs.Fits.{or_first, or_second}
 use Rattle.arr_ops.proofs.FitsLaw.{all_append}
 use Rattle.arr_elab.specs.Recording.{other_names}
 use Rattle.arr_record.specs.Flushes.{unnamed, is_named}
-use Rattle.arr_record.specs.Ledger.{Ledger, Owned, base_of, names_for, lives, with_types}
+use Rattle.arr_record.specs.Ledger.{Ledger, Owned, base_of, found, names_for, lives, with_types}
 use Rattle.arr_record.proofs.Home.{test_pairs, all_with}
 use Rattle.arr_record.proofs.Joined.{pairs_more}
 use Rattle.arr_record.proofs.Freed.{lives_kept}
 use Rattle.arr_record.proofs.Named.{Apart, stands, base_other, others_none, apart_other, apart_first, names_for_other, stands_counted, found_held}
-use Rattle.arr_record.proofs.Loose.{Rising, keys, keys_all, keys_alike, keys_more, keys_less, insert_last}
+use Rattle.arr_record.proofs.Loose.{Rising, keys, keys_all, keys_alike, keys_more, keys_less, insert_last, is_at_same}
 
 pub rising_of : (live : List (ℕ × Elem)) → all_pairs (λ (x y : ℕ × Elem). nat_lt x.0 y.0) live ≡ true → Rising live
 rising_of live h = Pairs_weaker (λ (x y : ℕ × Elem). nat_lt x.0 y.0 ≡ true) (λ (x y : ℕ × Elem). x.0 < y.0) (λ x y t. ltb-true x.0 y.0 t) live (pairs_of (λ (x y : ℕ × Elem). nat_lt x.0 y.0) live h)
@@ -60,7 +61,7 @@ index_more [] (suc c) = refl
 index_more (x ∷ xs) zero = refl
 index_more (x ∷ xs) (suc c) = index_more xs c
 
-pub owned_made : (o p : Ledger) (b : ℕ) (t : Elem) (names : List (ℕ × ℕ)) (live : List (ℕ × Elem)) → b ≡ length o.elems → ((q : ℕ) → p.names q ≡ o.names q) → p.elems ≡ o.elems ++ t ∷ []
+pub owned_made : (o p : Ledger) (b : ℕ) (t : Elem) (names : List (ℕ × ℕ)) (live : List (ℕ × Elem)) → b ≡ length o.elems → ((q : ℕ) → found p.names q ≡ found o.names q) → p.elems ≡ o.elems ++ t ∷ []
     → p.counts ≡ o.counts ++ 0 ∷ [] → p.loose ≡ insert_key nat_cmp o.loose b → Owned o names live → Owned p names (live ++ (b, t) ∷ [])
 owned_made o p b t names live at same_names elems counts loose w =
     let made : List (ℕ × Elem) = (b, t) ∷ [] in
@@ -90,7 +91,7 @@ owned_made o p b t names live at same_names elems counts loose w =
 -- ---- a name stands for nothing
 
 -- the base of a name is counted
-pub named_count : (o : Ledger) (k b : ℕ) (names : List (ℕ × ℕ)) (live : List (ℕ × Elem)) → Owned o names live → o.names k ≡ Some b
+pub named_count : (o : Ledger) (k b : ℕ) (names : List (ℕ × ℕ)) (live : List (ℕ × Elem)) → Owned o names live → found o.names k ≡ Some b
     → slice_index o.counts b ≡ suc (names_for (other_names k names) b)
 named_count o k b names live w e =
     w.counted b ∙ names_for_other names k b (apart_of names w.apart) (sym (w.by_name k) ∙ e) b
@@ -103,16 +104,16 @@ lives_below P (x ∷ xs) b a h = or_cases (x.0 == b) (lives xs b) h (λ e. subst
 pub live_below : (o : Ledger) (b : ℕ) (names : List (ℕ × ℕ)) (live : List (ℕ × Elem)) → Owned o names live → lives live b ≡ true → b < length o.elems
 live_below o b names live w h = lives_below (λ c. c < length o.elems) live b w.below h
 
-pub named_live : (o : Ledger) (k b : ℕ) (names : List (ℕ × ℕ)) (live : List (ℕ × Elem)) → Owned o names live → o.names k ≡ Some b → lives live b ≡ true
+pub named_live : (o : Ledger) (k b : ℕ) (names : List (ℕ × ℕ)) (live : List (ℕ × Elem)) → Owned o names live → found o.names k ≡ Some b → lives live b ≡ true
 named_live o k b names live w e = found_held (λ c. lives live c ≡ true) names k b (sym (w.by_name k) ∙ e) w.held
 
-pub named_below : (o : Ledger) (k b : ℕ) (names : List (ℕ × ℕ)) (live : List (ℕ × Elem)) → Owned o names live → o.names k ≡ Some b → b < length o.counts
+pub named_below : (o : Ledger) (k b : ℕ) (names : List (ℕ × ℕ)) (live : List (ℕ × Elem)) → Owned o names live → found o.names k ≡ Some b → b < length o.counts
 named_below o k b names live w e =
     let l : b < length o.elems = live_below o b names live w (named_live o k b names live w e) in
     let even : length o.counts ≡ length o.elems = w.even in
     omega arith
 
-pub owned_released : (o p : Ledger) (k b : ℕ) (names : List (ℕ × ℕ)) (live : List (ℕ × Elem)) → o.names k ≡ Some b → ((q : ℕ) → p.names q ≡ cond (k == q) None (o.names q)) → p.elems ≡ o.elems
+pub owned_released : (o p : Ledger) (k b : ℕ) (names : List (ℕ × ℕ)) (live : List (ℕ × Elem)) → found o.names k ≡ Some b → ((q : ℕ) → found p.names q ≡ cond (k == q) None (found o.names q)) → p.elems ≡ o.elems
     → p.counts ≡ set o.counts b (slice_index o.counts b - 1) → p.loose ≡ cond (slice_index o.counts b == 1) (insert_key nat_cmp o.loose b) o.loose
     → Owned o names live → Owned p (other_names k names) live
 owned_released o p k b names live bound same_names elems counts loose w =
@@ -164,16 +165,30 @@ owned_released o p k b names live bound same_names elems counts loose w =
     }
 
 -- it stood for nothing
-pub owned_unbound : (o p : Ledger) (k : ℕ) (names : List (ℕ × ℕ)) (live : List (ℕ × Elem)) → o.names k ≡ None → ((q : ℕ) → p.names q ≡ o.names q) → p.elems ≡ o.elems → p.counts ≡ o.counts → p.loose ≡ o.loose
+pub owned_unbound : (o p : Ledger) (k : ℕ) (names : List (ℕ × ℕ)) (live : List (ℕ × Elem)) → found o.names k ≡ None → ((q : ℕ) → found p.names q ≡ cond (k == q) None (found o.names q)) → p.elems ≡ o.elems → p.counts ≡ o.counts → p.loose ≡ o.loose
     → Owned o names live → Owned p (other_names k names) live
 owned_unbound o p k names live none same_names elems counts loose w =
     let same : other_names k names ≡ names = others_none names k (sym (w.by_name k) ∙ none) in
-    let as_was : p ≡ o = (λ i. record { names = λ q. same_names q i; elems = elems i; counts = counts i; loose = loose i }) in
-    subst (λ ns. Owned p ns live) (sym same) (subst (λ l. Owned l names live) (sym as_was) w)
+    subst (λ ns. Owned p ns live) (sym same)
+    (record {
+      by_name = λ n. same_names n
+          ∙ elim (k == n) as (λ t. (k == n) ≡ t → cond t None (found o.names n) ≡ base_of names n) [
+            | true ↦ λ e. sym none ∙ ap (found o.names) (eqb-true k n e) ∙ w.by_name n
+            | false ↦ λ e. w.by_name n
+          ] refl;
+      counted = λ b. ap (λ xs. get_or xs b 0) counts ∙ w.counted b;
+      loose = loose ∙ w.loose;
+      even = ap length counts ∙ w.even ∙ ap length (sym elems);
+      types = subst (λ es. AllByRecursion (λ (base : ℕ × Elem). get_or es base.0 U8 ≡ base.1) live) (sym elems) w.types;
+      below = subst (λ es. AllByRecursion (λ (base : ℕ × Elem). base.0 < length es) live) (sym elems) w.below;
+      held = w.held;
+      apart = w.apart;
+      rising = w.rising;
+    })
 
 -- ---- a name stands for a live base
 
-pub owned_bound : (o p : Ledger) (k b : ℕ) (names : List (ℕ × ℕ)) (live : List (ℕ × Elem)) → lives live b ≡ true → ((q : ℕ) → p.names q ≡ cond (k == q) (Some b) (o.names q)) → p.elems ≡ o.elems
+pub owned_bound : (o p : Ledger) (k b : ℕ) (names : List (ℕ × ℕ)) (live : List (ℕ × Elem)) → lives live b ≡ true → ((q : ℕ) → found p.names q ≡ cond (k == q) (Some b) (found o.names q)) → p.elems ≡ o.elems
     → p.counts ≡ set o.counts b (slice_index o.counts b + 1) → p.loose ≡ remove_key (is_at (nat_cmp b)) o.loose
     → Owned o (other_names k names) live → Apart names → Owned p ((k, b) ∷ other_names k names) live
 owned_bound o p k b names live alive same_names elems counts loose w apart =
@@ -262,7 +277,7 @@ loose_typed o names live w =
 pub loose_below : (o : Ledger) (names : List (ℕ × ℕ)) (live : List (ℕ × Elem)) → Owned o names live → AllByRecursion (λ b. b < length o.elems) o.loose
 loose_below o names live w = subst (λ ks. AllByRecursion (λ b. b < length o.elems) ks) (sym w.loose) (keys_all (λ b. b < length o.elems) (free_for names) live w.below)
 
-pub owned_none : (o : Ledger) → ((n : ℕ) → o.names n ≡ None) → o.elems ≡ [] → o.counts ≡ [] → o.loose ≡ [] → Owned o [] []
+pub owned_none : (o : Ledger) → ((n : ℕ) → found o.names n ≡ None) → o.elems ≡ [] → o.counts ≡ [] → o.loose ≡ [] → Owned o [] []
 owned_none o names elems counts loose =
     record {
       by_name = names;
@@ -275,3 +290,57 @@ owned_none o names elems counts loose =
       apart = refl;
       rising = refl;
     }
+
+-- ---- what calls on the map and the counts say
+
+pub none_found : (r : Option ℕ) → ((x : ℕ) → r ≡ Some x → ⊥) → r ≡ None
+none_found None h = refl
+none_found (Some x) h = absurd (h x refl)
+
+pub updated : (m n : List (ℕ × ℕ)) (k : ℕ) (w : Option ℕ) → ((q : ℕ) → found n q ≡ cond (is_at (nat_cmp k) q) w (found m q)) → (q : ℕ) → found n q ≡ cond (k == q) w (found m q)
+updated m n k w h q = h q ∙ ap (λ t. cond t w (found m q)) (is_at_same k q)
+
+-- ---- all names are let go
+
+-- the names without those of a list
+abbrev pub without : List ℕ → List (ℕ × ℕ) → List (ℕ × ℕ)
+without [] names = names
+without (k ∷ ks) names = without ks (other_names k names)
+
+pub without_more : (ks : List ℕ) (k : ℕ) (names : List (ℕ × ℕ)) → without (ks ++ k ∷ []) names ≡ other_names k (without ks names)
+without_more [] k names = refl
+without_more (j ∷ ks) k names = without_more ks k (other_names j names)
+
+without_all : (ks : List ℕ) (names : List (ℕ × ℕ)) → AllByRecursion (λ (name : ℕ × ℕ). has ks name.0 ≡ true) names → without ks names ≡ []
+without_all [] [] h = refl
+without_all [] (x ∷ xs) h = absurd (false≢true h.0)
+without_all (k ∷ ks) names h =
+    without_all ks (other_names k names)
+    (All_filter (λ (name : ℕ × ℕ). has ks name.0 ≡ true) (λ (name : ℕ × ℕ). not (name.0 == k)) names
+    (All_weaker (λ (name : ℕ × ℕ). has (k ∷ ks) name.0 ≡ true) (λ (name : ℕ × ℕ). not (name.0 == k) ≡ true → has ks name.0 ≡ true)
+    (λ name t ne. or_cases (name.0 == k) (has ks name.0) t (λ e. absurd (false≢true (ap not (sym e) ∙ ne))) (λ u. u)) names h))
+
+-- each name is found
+each_found : (names : List (ℕ × ℕ)) → AllByRecursion (λ (name : ℕ × ℕ). is_some (base_of names name.0) ≡ true) names
+each_found [] = tt
+each_found (x ∷ xs) = (
+  ap (λ t. is_some (cond t (Some x.1) (base_of xs x.0))) (eq-eqb x.0 x.0 refl),
+  All_weaker (λ (name : ℕ × ℕ). is_some (base_of xs name.0) ≡ true) (λ (name : ℕ × ℕ). is_some (base_of (x ∷ xs) name.0) ≡ true)
+      (λ name t. elim (x.0 == name.0) as (λ u. is_some (cond u (Some x.1) (base_of xs name.0)) ≡ true) [ true ↦ refl | false ↦ t ]) xs (each_found xs),
+)
+
+found_key : (entries : List (ℕ × ℕ)) (n : ℕ) → is_some (found entries n) ≡ true → has (map (λ (e : ℕ × ℕ). e.0) entries) n ≡ true
+found_key [] n h = absurd (false≢true h)
+found_key (x ∷ xs) n h =
+    elim (n == x.0) as (λ t. (n == x.0) ≡ t → (t || has (map (λ (e : ℕ × ℕ). e.0) xs) n) ≡ true) [
+      | true ↦ λ e. refl
+      | false ↦ λ e. found_key xs n (ap (λ t. is_some (cond t (Some x.1) (found xs n))) (sym (is_at_same n x.0 ∙ e)) ∙ h)
+    ] refl
+
+-- without the keys of the map no name is left
+pub none_left : (o p : Ledger) (names : List (ℕ × ℕ)) (live : List (ℕ × Elem)) → Owned o names live → Owned p (without (map (λ (e : ℕ × ℕ). e.0) o.names) names) live → Owned p [] live
+none_left o p names live w =
+    subst (λ ns. Owned p ns live)
+    (without_all (map (λ (e : ℕ × ℕ). e.0) o.names) names
+    (All_weaker (λ (name : ℕ × ℕ). is_some (base_of names name.0) ≡ true) (λ (name : ℕ × ℕ). has (map (λ (e : ℕ × ℕ). e.0) o.names) name.0 ≡ true)
+    (λ name t. found_key o.names name.0 (ap is_some (w.by_name name.0) ∙ t)) names (each_found names)))

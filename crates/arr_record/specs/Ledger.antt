@@ -1,17 +1,24 @@
 -- What is kept of names and bases while steps are read: counts in place of a search through the names.
 use Rattle.std.specs.Prelude.{ℕ, suc, ◌≡◌, ◌<◌, ◌==◌, List, [], ◌∷◌, Bool, true, not, cond, map, length, get_or, slice_index, nat_lt, Option, Some, None}
 use Rattle.std.specs.List.{AllByRecursion, list_any}
+use Rattle.std.specs.Map.{lookup}
+use Rattle.std.specs.BTreeMap.{is_at}
+use Rattle.std.specs.Ordering.{nat_cmp}
 use Rattle.arr_num.specs.declared.elem.Elem.{Elem}
 use Rattle.arr_num.specs.declared.elem.Elem.TheVariants.{U8}
 use Rattle.arr_ops.specs.Formed.{all_pairs}
 use Rattle.arr_record.specs.Flushes.{unnamed}
 
--- the base of each name, the type of each base made so far, how many names stand for each, and the live bases that no name stands for
+-- the bases of the names as a map's entries, the type of each base made so far, how many names stand for each, and the live bases that no name stands for
 pub record Ledger : Type 0 where
-  pub names : ℕ → Option ℕ
+  pub names : List (ℕ × ℕ)
   pub elems : List Elem
   pub counts : List ℕ
   pub loose : List ℕ
+
+-- the base of a name in a map's entries
+abbrev pub found : List (ℕ × ℕ) → ℕ → Option ℕ
+found entries n = lookup (is_at (nat_cmp n)) entries
 
 abbrev pub base_of : List (ℕ × ℕ) → ℕ → Option ℕ
 base_of [] n = None
@@ -31,7 +38,7 @@ with_types elems bases = map (λ b. (b, get_or elems b U8)) bases
 
 -- the ledger says what the names and the live bases are
 pub record Owned (o : Ledger) (names : List (ℕ × ℕ)) (live : List (ℕ × Elem)) : Type 0 where
-  pub by_name : (n : ℕ) → o.names n ≡ base_of names n
+  pub by_name : (n : ℕ) → found o.names n ≡ base_of names n
   pub counted : (b : ℕ) → slice_index o.counts b ≡ names_for names b
   pub loose : o.loose ≡ map (λ (base : ℕ × Elem). base.0) (unnamed names live)
   pub even : length o.counts ≡ length o.elems

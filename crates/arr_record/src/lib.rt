@@ -7,7 +7,7 @@
 #![tactic(auto)]
 
 mod flush;
-
+mod owners;
 
 mod writer;
 
