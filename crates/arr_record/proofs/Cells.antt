@@ -127,9 +127,9 @@ stored_step bases m g b home free h =
     subst (λ t. Stored (place_of bases b) (changed (cond t Drops (output_change g.out g.makes g.to (computed m g) b)) (m.bases b))) (sym free)
     (stored_output g (place_of bases b) (computed m g) b g.out g.makes (m.bases b)
     (λ o e t.
-        let w : Output g (place_of bases o.base) (computed m g) = output_of bases m g o home e in
-        let same : place_of bases o.base ≡ place_of bases b = ap (place_of bases) (eqb-true o.base b t) in
-        (w.type_is ∙ ap (λ (q : ℕ × Elem). q.1) same, subst (λ (q : ℕ × Elem). AllIn q.1 (computed m g)) same w.numbers, (λ k. w.all k ∙ ap (λ (q : ℕ × Elem). q.0) same)))
+    let w : Output g (place_of bases o.base) (computed m g) = output_of bases m g o home e in
+    let same : place_of bases o.base ≡ place_of bases b = ap (place_of bases) (eqb-true o.base b t) in
+    (w.type_is ∙ ap (λ (q : ℕ × Elem). q.1) same, subst (λ (q : ℕ × Elem). AllIn q.1 (computed m g)) same w.numbers, (λ k. w.all k ∙ ap (λ (q : ℕ × Elem). q.0) same)))
     h)
 
 -- ---- a base that is not there

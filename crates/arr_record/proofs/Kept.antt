@@ -76,14 +76,14 @@ slots_joined ops op e h =
     slot_numbers_more ops op ∙ ap (λ ss. ss ++ option_to_list op.slot) h
     ∙ ⊎_elim
     (λ c.
-        let none : op.slot ≡ None = e ∙ c.0 in
-        let zero_more : length (option_to_list op.slot) ≡ 0 = ap (λ s. length (option_to_list s)) none in
-        ap (λ s. range_with_len 1 n ++ option_to_list s) none ∙ append-nil (range_with_len 1 n) ∙ ap (range_with_len 1) (let k : n ≡ slot_count (ops ++ op ∷ []) = omega arith in k))
+    let none : op.slot ≡ None = e ∙ c.0 in
+    let zero_more : length (option_to_list op.slot) ≡ 0 = ap (λ s. length (option_to_list s)) none in
+    ap (λ s. range_with_len 1 n ++ option_to_list s) none ∙ append-nil (range_with_len 1 n) ∙ ap (range_with_len 1) (let k : n ≡ slot_count (ops ++ op ∷ []) = omega arith in k))
     (λ c.
-        let some : op.slot ≡ Some (suc n) = e ∙ c.0 in
-        let one_more : length (option_to_list op.slot) ≡ 1 = ap (λ s. length (option_to_list s)) some in
-        ap (λ s. range_with_len 1 n ++ option_to_list s) some ∙ ap (λ k. range_with_len 1 n ++ k ∷ []) (let k : suc n ≡ 1 + n = omega arith in k)
-        ∙ sym (range_more 1 n) ∙ ap (range_with_len 1) (let k : suc n ≡ slot_count (ops ++ op ∷ []) = omega arith in k))
+    let some : op.slot ≡ Some (suc n) = e ∙ c.0 in
+    let one_more : length (option_to_list op.slot) ≡ 1 = ap (λ s. length (option_to_list s)) some in
+    ap (λ s. range_with_len 1 n ++ option_to_list s) some ∙ ap (λ k. range_with_len 1 n ++ k ∷ []) (let k : suc n ≡ 1 + n = omega arith in k)
+    ∙ sym (range_more 1 n) ∙ ap (range_with_len 1) (let k : suc n ≡ slot_count (ops ++ op ∷ []) = omega arith in k))
     (slot_cases (suc n) op.code)
 
 -- ---- one more operation
@@ -171,10 +171,10 @@ module _ (bases : List (ℕ × Elem)) (live : ℕ → Bool) (past : List Op) (li
       ⊎_elim
       (λ t. let l : b < length bases = k.below b t in let n : length bases ≤ length (bases ++ made_of g) = longer in omega arith)
       (λ t.
-          let n : length (bases ++ made_of g) ≡ length bases + length (made_of g) = length-append bases (made_of g) in
-          let one : length (made_of g) ≡ 1 = one_made g.out g.makes g.to b t in
-          let next : b ≡ length bases = made_is_next bases g.out g.makes b a.makes t in
-          omega arith)
+      let n : length (bases ++ made_of g) ≡ length bases + length (made_of g) = length-append bases (made_of g) in
+      let one : length (made_of g) ≡ 1 = one_made g.out g.makes g.to b t in
+      let next : b ≡ length bases = made_is_next bases g.out g.makes b a.makes t in
+      omega arith)
       (was b h).0
 
   source_after : (b : ℕ) → live_after live g b ≡ true → (creates (waiting ++ g ∷ []) b ≡ true) ⊎ Stored (place_of (bases ++ made_of g) b) ((start_of lists).bases b)
@@ -237,12 +237,14 @@ kept_cut bases live past lists waiting some k =
     let start : start_of (lists ++ waiting ∷ []) ≡ after_list (start_of lists) waiting = after_lists_more empty lists waiting in
     let bases_are : (b : ℕ) → (start_of (lists ++ waiting ∷ [])).bases b ≡ (now_of lists waiting).bases b = λ b. ap (λ (m : Memory). m.bases b) start in
     record {
-      lawful = all_append Lawful lists (waiting ∷ []) k.lawful
-          (record {
-            formed = formed_if bases waiting k.home (k.slots ∙ ap (range_with_len 1) (sym (ap length (slot_list waiting)))) k.order;
-            some = some;
-            few = k.few;
-          }, tt);
+      lawful = all_append Lawful lists (waiting ∷ []) k.lawful (
+        record {
+          formed = formed_if bases waiting k.home (k.slots ∙ ap (range_with_len 1) (sym (ap length (slot_list waiting)))) k.order;
+          some = some;
+          few = k.few;
+        },
+        tt,
+      );
       fitting = each_fits_more empty lists waiting k.fitting (test_all (op_fits (start_of lists) waiting) waiting k.fits_start);
       few = omega arith;
       home = tt;

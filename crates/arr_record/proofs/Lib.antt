@@ -9,3 +9,4 @@ pub mod Walk
 pub mod Named
 pub mod Loose
 pub mod Ledgers
+pub mod Following

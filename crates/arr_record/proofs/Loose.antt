@@ -67,7 +67,7 @@ keys_above p q b h (x ∷ xs) a =
     let rest : keys q xs ≡ keys p xs = keys_above p q b h xs a.1 in
     ap (λ t. map (λ (base : ℕ × Elem). base.0) (cond t (x ∷ filter (λ (base : ℕ × Elem). q base.0) xs) (filter (λ (base : ℕ × Elem). q base.0) xs))) (sym (h x.0 (λ e. absurd (omega arith))))
     ∙ elim (p x.0) as (λ t. map (λ (base : ℕ × Elem). base.0) (cond t (x ∷ filter (λ (base : ℕ × Elem). q base.0) xs) (filter (λ (base : ℕ × Elem). q base.0) xs))
-        ≡ map (λ (base : ℕ × Elem). base.0) (cond t (x ∷ filter (λ (base : ℕ × Elem). p base.0) xs) (filter (λ (base : ℕ × Elem). p base.0) xs))) [ true ↦ ap (λ ks. x.0 ∷ ks) rest | false ↦ rest ]
+    ≡ map (λ (base : ℕ × Elem). base.0) (cond t (x ∷ filter (λ (base : ℕ × Elem). p base.0) xs) (filter (λ (base : ℕ × Elem). p base.0) xs))) [ true ↦ ap (λ ks. x.0 ∷ ks) rest | false ↦ rest ]
 
 pub keys_alike : (p q : ℕ → Bool) → ((c : ℕ) → p c ≡ q c) → (live : List (ℕ × Elem)) → keys q live ≡ keys p live
 keys_alike p q h live = let same : q ≡ p = (λ i c. sym (h c) i) in ap (λ t. keys t live) same
@@ -91,7 +91,7 @@ keys_more p q b hp hq h (x ∷ xs) r l =
           let rest : keys q xs ≡ insert_key nat_cmp (keys p xs) b = keys_more p q b hp hq h xs r.1 later in
           ap (λ t. map (λ (base : ℕ × Elem). base.0) (cond t (x ∷ filter (λ (base : ℕ × Elem). q base.0) xs) (filter (λ (base : ℕ × Elem). q base.0) xs))) (sym (h x.0 (eqb-false x.0 b e)))
           ∙ elim (p x.0) as (λ t. map (λ (base : ℕ × Elem). base.0) (cond t (x ∷ filter (λ (base : ℕ × Elem). q base.0) xs) (filter (λ (base : ℕ × Elem). q base.0) xs))
-              ≡ insert_key nat_cmp (map (λ (base : ℕ × Elem). base.0) (cond t (x ∷ filter (λ (base : ℕ × Elem). p base.0) xs) (filter (λ (base : ℕ × Elem). p base.0) xs))) b) [
+          ≡ insert_key nat_cmp (map (λ (base : ℕ × Elem). base.0) (cond t (x ∷ filter (λ (base : ℕ × Elem). p base.0) xs) (filter (λ (base : ℕ × Elem). p base.0) xs))) b) [
             | true ↦ ap (λ ks. x.0 ∷ ks) rest ∙ sym (insert_later x.0 (keys p xs) b less)
             | false ↦ rest
           ]
@@ -116,7 +116,7 @@ keys_less p q b hq h (x ∷ xs) r =
           let rest : keys q xs ≡ remove_key (is_at (nat_cmp b)) (keys p xs) = keys_less p q b hq h xs r.1 in
           ap (λ t. map (λ (base : ℕ × Elem). base.0) (cond t (x ∷ filter (λ (base : ℕ × Elem). q base.0) xs) (filter (λ (base : ℕ × Elem). q base.0) xs))) (sym (h x.0 (eqb-false x.0 b e)))
           ∙ elim (p x.0) as (λ t. map (λ (base : ℕ × Elem). base.0) (cond t (x ∷ filter (λ (base : ℕ × Elem). q base.0) xs) (filter (λ (base : ℕ × Elem). q base.0) xs))
-              ≡ remove_key (is_at (nat_cmp b)) (map (λ (base : ℕ × Elem). base.0) (cond t (x ∷ filter (λ (base : ℕ × Elem). p base.0) xs) (filter (λ (base : ℕ × Elem). p base.0) xs)))) [
+          ≡ remove_key (is_at (nat_cmp b)) (map (λ (base : ℕ × Elem). base.0) (cond t (x ∷ filter (λ (base : ℕ × Elem). p base.0) xs) (filter (λ (base : ℕ × Elem). p base.0) xs)))) [
             | true ↦ ap (λ ks. x.0 ∷ ks) rest
                 ∙ ap (λ t. cond t (keys p xs) (x.0 ∷ remove_key (is_at (nat_cmp b)) (keys p xs))) (sym (is_at_same b x.0 ∙ ne_eqb b x.0 (λ f. eqb-false x.0 b e (sym f))))
             | false ↦ rest

@@ -65,10 +65,13 @@ apart_first names k b h = (
   where
     turned : (ns : List (ℕ × ℕ)) → AllByRecursion (λ (y : ℕ × ℕ). not (y.0 == k) ≡ true → not (k == y.0) ≡ true) ns
     turned [] = tt
-    turned (y ∷ ys) = ((λ t. elim (y.0 == k) as (λ u. (y.0 == k) ≡ u → not u ≡ true → not (k == y.0) ≡ true) [
-      | true ↦ λ e f. absurd (false≢true f)
-      | false ↦ λ e f. ap not (ne_eqb k y.0 (λ g. eqb-false y.0 k e (sym g)))
-    ] refl t), turned ys)
+    turned (y ∷ ys) = (
+      (λ t. elim (y.0 == k) as (λ u. (y.0 == k) ≡ u → not u ≡ true → not (k == y.0) ≡ true) [
+        | true ↦ λ e f. absurd (false≢true f)
+        | false ↦ λ e f. ap not (ne_eqb k y.0 (λ g. eqb-false y.0 k e (sym g)))
+      ] refl t),
+      turned ys,
+    )
 
 -- ---- how many names
 

@@ -1,5 +1,5 @@
 -- What is kept of names and bases while steps are read: counts in place of a search through the names.
-use Rattle.std.specs.Prelude.{ℕ, suc, ◌≡◌, ◌<◌, ◌==◌, List, [], ◌∷◌, Bool, true, not, cond, map, length, get_or, slice_index, nat_lt, Option, Some, None}
+use Rattle.std.specs.Prelude.{ℕ, suc, ◌≡◌, ◌<◌, ◌^◌, ◌==◌, List, [], ◌∷◌, Bool, true, not, cond, map, length, get_or, slice_index, nat_lt, Option, Some, None}
 use Rattle.std.specs.List.{AllByRecursion, list_any}
 use Rattle.std.specs.Map.{lookup}
 use Rattle.std.specs.BTreeMap.{is_at}
@@ -7,7 +7,9 @@ use Rattle.std.specs.Ordering.{nat_cmp}
 use Rattle.arr_num.specs.declared.elem.Elem.{Elem}
 use Rattle.arr_num.specs.declared.elem.Elem.TheVariants.{U8}
 use Rattle.arr_ops.specs.Formed.{all_pairs}
-use Rattle.arr_record.specs.Flushes.{unnamed}
+use Rattle.arr_elab.specs.Recording.{Scene, is_live, after_step}
+use Rattle.arr_elab.specs.declared.step.Step.{Step}
+use Rattle.arr_record.specs.Flushes.{State, Written, unnamed}
 
 -- the bases of the names as a map's entries, the type of each base made so far, how many names stand for each, and the live bases that no name stands for
 pub record Ledger : Type 0 where
@@ -53,3 +55,19 @@ pub record Known (o : Ledger) : Type 0 where
   pub names : List (ℕ × ℕ)
   pub live : List (ℕ × Elem)
   pub owned : Owned o names live
+
+-- what is written and the ledger are what the steps so far leave
+pub record Follows (scene : Scene) (s : State) (w : Written) (o : Ledger) : Type 0 where
+  pub written : w ≡ s.written
+  pub owned : Owned o s.names s.live
+  pub made : length o.elems ≡ length scene.bases
+
+-- and the step may come next
+pub record Ready (w : Written) (o : Ledger) (step : Step) : Type 0 where
+  pub scene : Scene
+  pub state : State
+  pub next : Scene
+  pub follows : Follows scene state w o
+  pub live : (b : ℕ) → is_live scene b ≡ true → lives state.live b ≡ true
+  pub may : after_step scene step ≡ Some next
+  pub few : length state.names < 2 ^ 63

@@ -2,12 +2,15 @@
 ghost use Rattle.std.specs.Prelude.{ℕ, ◌+◌, ◌<◌, ◌^◌, ◌≡◌, List, [], ◌∷◌, ◌++◌, true, length, OnOk};
 ghost use Rattle.arr_num.specs.declared.elem.Elem.{Elem};
 ghost use Rattle.arr_elab.specs.Recording.{other_names};
-ghost use Rattle.arr_record.specs.Flushes.{free_each};
+ghost use Rattle.std.specs.List.{AllByRecursion};
+ghost use Rattle.arr_ops.specs.Ops.{outputs};
+ghost use Rattle.arr_record.specs.Flushes.{free_each, made};
 ghost use Rattle.arr_record.specs.Ledger.{lives, with_types, Known, Owned};
 
 use crate::NoMemory;
 use crate::writer::{Writer, free_of};
 use arr_num::Elem;
+use arr_ops::Op;
 use std::alloc::Global;
 use std::collections::{BTreeMap, BTreeSet};
 use std::marker::Model;
@@ -53,6 +56,21 @@ impl Owners {
         self.counts.push(0)?;
         self.loose.insert(base)?;
         Ok(())
+    }
+
+    /// The base that an operation makes, if it makes one.
+    pub(crate) fn make_for(&mut self, op: &Op) -> Result<(), NoMemory>
+        requires { op.now.makes ≡ true → AllByRecursion (λ o. o.base ≡ length self.old.elems) (outputs op.now) }
+        ensures owned { OnOk result ((names : List (ℕ × ℕ)) → (live : List (ℕ × Elem)) → Owned self.old names live → Owned self.new names (live ++ made op.now)) }
+        ensures made { OnOk result (length self.new.elems ≡ length self.old.elems + length (made op.now)) }
+    {
+        if !op.makes {
+            return Ok(());
+        }
+        match &op.out {
+            Some(out) => self.make(out.base(), op.to),
+            None => Ok(()),
+        }
     }
 
     /// The name stands for nothing from here on.

@@ -38,14 +38,14 @@ overflow_add-index_mut c =
 pub returns-clause-owned : goal.returns-clause-owned
 returns-clause-owned c =
     λ names live owned alive.
-        let before : Ledger = record { names = c.self.inside.names.entries; elems = c.self.inside.elems.items; counts = c.self.inside.counts.items; loose = c.self.inside.loose.keys } in
-        let after : Ledger = record { names = c.insert.new.self.entries; elems = c.self.inside.elems.items; counts = set c.self.inside.counts.items c.args.base (c.index_mut.result.now + 1); loose = c.remove.new.self.keys } in
-        let known : Owned before (other_names c.args.name names) live = subst (λ o. Owned o (other_names c.args.name names) live) (sym c.self.view_is) (c.in_ok-release.ensures.owned names live owned) in
-        let below : c.args.base < length c.self.inside.elems.items = live_below before c.args.base (other_names c.args.name names) live known alive in
-        let even : length c.self.inside.counts.items ≡ length c.self.inside.elems.items = known.even in
-        let inside : c.args.base < length c.self.inside.counts.items = omega arith in
-        let read : c.index_mut.result.now ≡ slice_index c.self.inside.counts.items c.args.base =
-        c.index_mut.ensures.value ∙ get_or_default_zero c.self.inside.counts.items c.args.base c.index_mut.result.now inside in
-        owned_bound before after c.args.name c.args.base names live alive
-        (updated c.self.inside.names.entries c.insert.new.self.entries c.args.name (Some c.args.base) c.in_ok-insert.ensures.updates.0) refl
-        (ap (λ n. set c.self.inside.counts.items c.args.base (n + 1)) read) c.remove.ensures.keys known (apart_of names owned.apart)
+    let before : Ledger = record { names = c.self.inside.names.entries; elems = c.self.inside.elems.items; counts = c.self.inside.counts.items; loose = c.self.inside.loose.keys } in
+    let after : Ledger = record { names = c.insert.new.self.entries; elems = c.self.inside.elems.items; counts = set c.self.inside.counts.items c.args.base (c.index_mut.result.now + 1); loose = c.remove.new.self.keys } in
+    let known : Owned before (other_names c.args.name names) live = subst (λ o. Owned o (other_names c.args.name names) live) (sym c.self.view_is) (c.in_ok-release.ensures.owned names live owned) in
+    let below : c.args.base < length c.self.inside.elems.items = live_below before c.args.base (other_names c.args.name names) live known alive in
+    let even : length c.self.inside.counts.items ≡ length c.self.inside.elems.items = known.even in
+    let inside : c.args.base < length c.self.inside.counts.items = omega arith in
+    let read : c.index_mut.result.now ≡ slice_index c.self.inside.counts.items c.args.base =
+    c.index_mut.ensures.value ∙ get_or_default_zero c.self.inside.counts.items c.args.base c.index_mut.result.now inside in
+    owned_bound before after c.args.name c.args.base names live alive
+    (updated c.self.inside.names.entries c.insert.new.self.entries c.args.name (Some c.args.base) c.in_ok-insert.ensures.updates.0) refl
+    (ap (λ n. set c.self.inside.counts.items c.args.base (n + 1)) read) c.remove.ensures.keys known (apart_of names owned.apart)
