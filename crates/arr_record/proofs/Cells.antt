@@ -1,5 +1,5 @@
 -- What a base holds, through one operation.
-use Rattle.std.proofs.Common.{◌≡◌, ℕ, ℤ, List, [], ◌∷◌, ◌++◌, Bool, true, false, cond, not, ◌||◌, ◌&&◌, ◌⊎◌, inl, inr, ⊎_elim, refl, ap, ap₂, sym, subst, ◌∙◌, length, set, Option, Some, None}
+use Rattle.std.proofs.Common.{◌≡◌, ℕ, ℤ, List, [], ◌∷◌, Bool, true, false, cond, ◌||◌, ◌&&◌, ◌⊎◌, ⊎_elim, refl, ap, ap₂, sym, subst, ◌∙◌, length, set, Option, Some, None}
 use Rattle.std.proofs.lemmas.Bool.{false≢true, eqb-true}
 use Rattle.std.proofs.lemmas.List.{length-set}
 use Rattle.std.specs.Prelude.{◌==◌, nat_lt}
@@ -15,7 +15,7 @@ use Rattle.arr_view.specs.Views.{elements, positions, has}
 use Rattle.arr_ops.specs.declared.op.Op.{Op}
 use Rattle.arr_ops.specs.declared.op.Operand.{Operand}
 use Rattle.arr_ops.specs.declared.op.Operand.TheVariants.{Array, Number}
-use Rattle.arr_ops.specs.Ops.{outputs, inputs, freed, view_of, makes_base}
+use Rattle.arr_ops.specs.Ops.{inputs, freed, view_of, makes_base}
 use Rattle.arr_ops.specs.Memory.{Memory, Cell, Keeps, Drops, Becomes, Writes, changed, change, output_change, write, read, operand, first_numbers, computed, step, results, out_lengths, lengths_of, or_zero}
 use Rattle.arr_ops.specs.Fits.{Need, meets_need}
 use Rattle.arr_ops.proofs.Tests.{or_cases, test_all, both_right}

@@ -1,10 +1,10 @@
 -- What each step makes of what is written and of the ledger, and the loop over all steps.
-use Rattle.std.proofs.Common.{◌≡◌, ℕ, ◌+◌, ◌<◌, ◌≤◌, ◌^◌, suc, List, [], ◌∷◌, ◌++◌, Bool, true, false, cond, not, refl, ap, ap₂, sym, subst, ◌∙◌, arith, length, length-append, map, drop, get_or, Option, Some, None, Result, Ok, Err, OnOk}
+use Rattle.std.proofs.Common.{◌≡◌, ℕ, ◌+◌, ◌<◌, ◌≤◌, ◌^◌, List, [], ◌∷◌, ◌++◌, Bool, true, false, refl, ap, ap₂, sym, subst, ◌∙◌, arith, length, length-append, drop, get_or, Some, None, Result, Ok, Err, OnOk}
 use Rattle.std.proofs.lemmas.Bool.{false≢true}
 use Rattle.std.proofs.lemmas.List.{length-map, at_drop_more, at_drop_all}
-use Rattle.std.specs.Prelude.{◌==◌, is_some}
+use Rattle.std.specs.Prelude.{is_some}
 use Rattle.std.specs.List.{AllByRecursion, filter}
-use Rattle.std.specs.Option.{option_to_list, option_and_then}
+use Rattle.std.specs.Option.{option_and_then}
 use Rattle.arr_num.specs.declared.elem.Elem.{Elem}
 use Rattle.arr_view.specs.Strided.{Strided}
 use Rattle.arr_view.specs.Views.{positions}
@@ -13,11 +13,11 @@ use Rattle.arr_ops.specs.Ops.{outputs}
 use Rattle.arr_elab.specs.declared.step.Step.{Step}
 use Rattle.arr_elab.specs.declared.step.Step.TheVariants.{Act, Name, Forget, Done, Cut}
 use Rattle.arr_elab.specs.Recording.{Scene, opening, is_live, may_act, made_by, other_names, after_step, after_steps, is_recording, allowed}
-use Rattle.arr_record.specs.Flushes.{State, Written, nothing_yet, append, cut, made, free_each, done, unnamed, is_named, after, after_all, ended, flush_lists}
-use Rattle.arr_record.specs.Ledger.{Ledger, Owned, Known, Follows, Ready, lives, with_types}
+use Rattle.arr_record.specs.Flushes.{State, Written, nothing_yet, append, cut, made, free_each, is_named, after, after_all, ended, flush_lists}
+use Rattle.arr_record.specs.Ledger.{Ledger, Owned, Follows, Ready, with_types}
 use Rattle.arr_record.proofs.Recorded.{recorded}
 use Rattle.arr_record.proofs.Named.{others_few}
-use Rattle.arr_record.proofs.Ledgers.{owned_freed, loose_typed, owned_none}
+use Rattle.arr_record.proofs.Ledgers.{owned_freed, loose_typed}
 use Rattle.arr_record.proofs.Walk.{Walked, Reached, walked_step, begun}
 
 pub on_ok : {T E : Type 0} (r : Result T E) (P Q : Type 0) → (P → Q) → OnOk r P → OnOk r Q

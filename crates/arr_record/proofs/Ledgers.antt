@@ -1,5 +1,5 @@
 -- What a change of the ledger says of names and live bases.
-use Rattle.std.proofs.Common.{◌≡◌, ◌≢◌, ℕ, ◌+◌, ◌-◌, ◌<◌, ◌≤◌, zero, suc, List, [], ◌∷◌, ◌++◌, Bool, true, false, cond, not, ◌||◌, ◌&&◌, refl, ap, ap₂, sym, subst, ◌∙◌, arith, length, map, get_or, set, Option, Some, None, length-append, get_or-set_other, get_or-set_same}
+use Rattle.std.proofs.Common.{◌≡◌, ◌≢◌, ℕ, ◌+◌, ◌-◌, ◌<◌, zero, suc, List, [], ◌∷◌, ◌++◌, Bool, true, false, cond, not, ◌||◌, ◌&&◌, refl, ap, ap₂, sym, subst, ◌∙◌, arith, length, map, get_or, set, Option, Some, None, length-append, get_or-set_other, get_or-set_same}
 use Rattle.std.proofs.lemmas.Bool.{false≢true, eqb-true, eqb-false, eq-eqb, ne_eqb, lt-ltb, ltb-true}
 use Rattle.std.proofs.lemmas.List.{length-set, get_or_past, get_or_append_left, map-append}
 use Rattle.std.proofs.lemmas.List.Elements.{filter-append}
@@ -7,7 +7,7 @@ use Rattle.std.proofs.lemmas.List.Folds.{list_any-append}
 use Rattle.std.proofs.Math.Seq.{get_or-append_seam}
 use Rattle.std.specs.Prelude.{◌==◌, nat_lt, slice_index, is_some}
 use Rattle.arr_view.specs.Views.{has}
-use Rattle.std.specs.List.{AllByRecursion, list_any, filter}
+use Rattle.std.specs.List.{AllByRecursion, filter}
 use Rattle.std.specs.Ordering.{nat_cmp}
 use Rattle.std.specs.BTreeMap.{is_at}
 use Rattle.std.specs.BTreeSet.{insert_key}
@@ -15,14 +15,15 @@ use Rattle.std.specs.Set.{remove_key}
 use Rattle.arr_num.specs.declared.elem.Elem.{Elem}
 use Rattle.arr_num.specs.declared.elem.Elem.TheVariants.{U8}
 use Rattle.arr_ops.specs.Formed.{all_pairs}
-use Rattle.arr_ops.proofs.Pairs.{Pairs, All_weaker, All_filter, Pairs_filter, Pairs_weaker}
+use Rattle.arr_ops.proofs.Pairs.{All_weaker, All_filter, Pairs_filter, Pairs_weaker}
 use Rattle.arr_ops.proofs.Tests.{or_cases, pairs_of}
 use Rattle.arr_ops.proofs.Fits.{or_first, or_second}
 use Rattle.arr_ops.proofs.FitsLaw.{all_append}
 use Rattle.arr_elab.specs.Recording.{other_names}
+use Rattle.arr_ops.proofs.Spots.{all_two}
 use Rattle.arr_record.specs.Flushes.{unnamed, is_named}
 use Rattle.arr_record.specs.Ledger.{Ledger, Owned, base_of, found, names_for, lives, with_types}
-use Rattle.arr_record.proofs.Home.{test_pairs, all_with}
+use Rattle.arr_record.proofs.Home.{test_pairs}
 use Rattle.arr_record.proofs.Joined.{pairs_more}
 use Rattle.arr_record.proofs.Freed.{lives_kept}
 use Rattle.arr_record.proofs.Named.{Apart, stands, base_other, others_none, apart_other, apart_first, names_for_other, stands_counted, found_held}
@@ -77,7 +78,7 @@ owned_made o p b t names live at same_names elems counts loose w =
           ∙ sym (map-append (λ (base : ℕ × Elem). base.0) (unnamed names live) (unnamed names made)) ∙ ap (map (λ (base : ℕ × Elem). base.0)) (sym (filter-append (λ (base : ℕ × Elem). free_for names base.0) live made));
       even = ap length counts ∙ length-append o.counts (0 ∷ []) ∙ omega arith;
       types = all_append (λ (base : ℕ × Elem). get_or p.elems base.0 U8 ≡ base.1) live made
-          (all_with (λ (base : ℕ × Elem). base.0 < length o.elems) (λ (base : ℕ × Elem). get_or o.elems base.0 U8 ≡ base.1) (λ (base : ℕ × Elem). get_or p.elems base.0 U8 ≡ base.1)
+          (all_two (λ (base : ℕ × Elem). base.0 < length o.elems) (λ (base : ℕ × Elem). get_or o.elems base.0 U8 ≡ base.1) (λ (base : ℕ × Elem). get_or p.elems base.0 U8 ≡ base.1)
           (λ base l e. ap (λ es. get_or es base.0 U8) elems ∙ get_or_append_left o.elems (t ∷ []) U8 base.0 l ∙ e) live w.below w.types)
           (ap₂ (λ es n. get_or es n U8) elems at ∙ get_or-append_seam o.elems t [] U8, tt);
       below = all_append (λ (base : ℕ × Elem). base.0 < length p.elems) live made
@@ -234,7 +235,7 @@ rest_named test (x ∷ xs) =
 held_kept : (names all : List (ℕ × ℕ)) (live : List (ℕ × Elem)) → AllByRecursion (λ (name : ℕ × ℕ). stands all name.1 ≡ true) names → AllByRecursion (λ (name : ℕ × ℕ). lives live name.1 ≡ true) names
     → AllByRecursion (λ (name : ℕ × ℕ). lives (filter (is_named all) live) name.1 ≡ true) names
 held_kept names all live =
-    all_with (λ (name : ℕ × ℕ). stands all name.1 ≡ true) (λ (name : ℕ × ℕ). lives live name.1 ≡ true) (λ (name : ℕ × ℕ). lives (filter (is_named all) live) name.1 ≡ true)
+    all_two (λ (name : ℕ × ℕ). stands all name.1 ≡ true) (λ (name : ℕ × ℕ). lives live name.1 ≡ true) (λ (name : ℕ × ℕ). lives (filter (is_named all) live) name.1 ≡ true)
     (λ name s l. lives_kept (stands all) live name.1 ∙ ap₂ (λ x y. x && y) l s) names
 
 each_stands : (names : List (ℕ × ℕ)) → AllByRecursion (λ (name : ℕ × ℕ). stands names name.1 ≡ true) names

@@ -1,8 +1,8 @@
 -- Names, one more or one less, and how many stand for a base.
-use Rattle.std.proofs.Common.{◌≡◌, ◌≢◌, ℕ, ◌+◌, ◌<◌, ◌≤◌, suc, List, [], ◌∷◌, Bool, true, false, cond, not, ◌||◌, ◌&&◌, refl, ap, ap₂, sym, subst, ◌∙◌, arith, length, Option, Some, None}
+use Rattle.std.proofs.Common.{◌≡◌, ℕ, ◌≤◌, suc, List, [], ◌∷◌, Bool, true, false, cond, not, ◌||◌, refl, ap, sym, subst, ◌∙◌, arith, length, Option, Some, None}
 use Rattle.std.proofs.lemmas.Bool.{false≢true, eqb-true, eqb-false, eq-eqb, ne_eqb, lt-ltb}
 use Rattle.std.specs.Prelude.{◌==◌, nat_lt}
-use Rattle.std.specs.List.{AllByRecursion, list_any, filter}
+use Rattle.std.specs.List.{AllByRecursion, list_any}
 use Rattle.arr_ops.proofs.Pairs.{Pairs, All_weaker, All_filter, Pairs_filter, Pairs_weaker}
 use Rattle.arr_elab.specs.Recording.{other_names}
 use Rattle.arr_record.specs.Ledger.{base_of, names_for}

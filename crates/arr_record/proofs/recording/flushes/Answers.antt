@@ -1,10 +1,8 @@
-use Rattle.std.proofs.Common.{◌≡◌, ◌<◌, ◌≤◌, ◌^◌, ℕ, List, get_or, true, length, sym, ap, subst, ◌∙◌, arith}
+use Rattle.std.proofs.Common.{◌≡◌, ◌<◌, ◌^◌, List, get_or, length, sym, ap, ◌∙◌, arith}
 use Rattle.std.specs.List.{list_all}
 use Rattle.arr_ops.specs.declared.op.Op.{Op}
 use Rattle.arr_ops.specs.Formed.{is_formed}
 use Rattle.arr_ops.specs.Memory.{empty}
-use Rattle.arr_elab.specs.declared.step.Step.{Step}
-use Rattle.arr_record.specs.Flushes.{flush_lists}
 use Rattle.arr_record.specs.Runs.{after_lists, each_fits, is_sized, printed_lists}
 use Rattle.arr_record.proofs.Following.{along_none, along_more, all_written, ready}
 use Rattle.arr_record.proofs.Walk.{recording, all_formed, all_sized}

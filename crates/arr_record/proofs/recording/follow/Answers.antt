@@ -1,14 +1,11 @@
-use Rattle.std.proofs.Common.{◌≡◌, ℕ, ◌+◌, List, [], ◌++◌, Some, true, length, sym, ap, subst, ◌∙◌, OnOk}
+use Rattle.std.proofs.Common.{◌≡◌, [], length, sym, ap, subst, ◌∙◌}
 use Rattle.std.specs.List.{AllByRecursion}
-use Rattle.arr_num.specs.declared.elem.Elem.{Elem}
 use Rattle.arr_view.specs.Strided.{Strided}
-use Rattle.arr_ops.specs.declared.op.Op.{Op}
 use Rattle.arr_ops.specs.Ops.{outputs}
 use Rattle.arr_elab.specs.declared.step.Step.{Step}
-use Rattle.arr_elab.specs.declared.step.Step.TheVariants.{Act, Name, Done}
 use Rattle.arr_elab.specs.Recording.{after_step}
-use Rattle.arr_record.specs.Flushes.{Written, append, made, after, free_each}
-use Rattle.arr_record.specs.Ledger.{Ledger, Known, Owned, Follows, Ready, lives, with_types}
+use Rattle.arr_record.specs.Flushes.{append, after, free_each}
+use Rattle.arr_record.specs.Ledger.{Follows, Ready, with_types}
 use Rattle.arr_record.proofs.Following.{on_ok, both_ok, makes_next_base, follows_act, name_live, follows_done}
 use Rattle.arr_record.proofs.recording.follow.Goals as goal
 

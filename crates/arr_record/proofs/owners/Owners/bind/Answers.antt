@@ -1,8 +1,8 @@
-use Rattle.std.proofs.Common.{◌≡◌, ◌<◌, ◌≤◌, ◌+◌, ◌^◌, ℕ, suc, List, set, Some, true, sym, ap, ◌∙◌, subst, length, refl, arith, rules, slice_index, vec_len}
+use Rattle.std.proofs.Common.{◌≡◌, ◌<◌, ◌≤◌, ◌+◌, ℕ, List, set, Some, sym, ap, ◌∙◌, subst, length, refl, arith, rules, slice_index, vec_len}
 use Rattle.std.proofs.lemmas.Grind.{get_or_default_zero}
 use Rattle.arr_num.specs.declared.elem.Elem.{Elem}
 use Rattle.arr_elab.specs.Recording.{other_names}
-use Rattle.arr_record.specs.Ledger.{Ledger, Owned, names_for, lives}
+use Rattle.arr_record.specs.Ledger.{Ledger, Owned, names_for}
 use Rattle.arr_record.proofs.Named.{names_for_few, others_few}
 use Rattle.arr_record.proofs.Ledgers.{owned_bound, live_below, apart_of, updated}
 use Rattle.arr_record.proofs.owners.Owners.bind.Goals as goal

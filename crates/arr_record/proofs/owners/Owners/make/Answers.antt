@@ -1,5 +1,4 @@
-use Rattle.std.proofs.Common.{◌≡◌, ℕ, List, sym, ap, ◌∙◌, subst, length, refl}
-use Rattle.arr_num.specs.declared.elem.Elem.{Elem}
+use Rattle.std.proofs.Common.{◌≡◌, sym, subst, length, refl}
 use Rattle.arr_record.specs.Ledger.{Ledger, Owned}
 use Rattle.arr_record.proofs.Ledgers.{owned_made}
 use Rattle.arr_record.proofs.owners.Owners.make.Goals as goal

@@ -1,4 +1,4 @@
-use Rattle.std.proofs.Common.{◌≡◌, ◌<◌, ◌≤◌, ◌-◌, ◌+◌, ◌^◌, ℕ, suc, List, set, cond, Option, Some, None, true, false, sym, ap, ◌∙◌, subst, length, refl, arith, rules, slice_index, vec_len}
+use Rattle.std.proofs.Common.{◌≡◌, ◌<◌, ◌-◌, suc, set, cond, None, true, false, sym, ap, ◌∙◌, subst, length, refl, arith, rules, slice_index, vec_len}
 use Rattle.std.proofs.lemmas.Bool.{eq-eqb, ne_eqb}
 use Rattle.std.proofs.lemmas.Grind.{get_or_default_zero}
 use Rattle.std.specs.Prelude.{◌==◌}

@@ -1,4 +1,4 @@
-use Rattle.std.proofs.Common.{◌≡◌, ◌≤◌, ◌<◌, ◌+◌, ℕ, List, [], ◌∷◌, ◌++◌, ◌∙◌, ap, sym, subst, length, map, take, get_or, rules, arith, take_all}
+use Rattle.std.proofs.Common.{◌≡◌, ◌<◌, ◌+◌, ℕ, List, ◌∙◌, ap, sym, subst, length, map, take, get_or, rules, arith, take_all}
 use Rattle.std.proofs.lemmas.List.{take_more}
 use Rattle.arr_elab.specs.Recording.{other_names}
 use Rattle.arr_record.specs.Ledger.{Ledger, Owned}
