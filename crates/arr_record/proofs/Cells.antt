@@ -1,5 +1,5 @@
 -- What a base holds, through one operation.
-use Rattle.std.proofs.Common.{◌≡◌, ℕ, ℤ, List, [], ◌∷◌, ◌++◌, Bool, true, false, cond, not, ◌||◌, ◌&&◌, ◌⊎◌, inl, inr, ⊎_elim, refl, ap, ap₂, sym, subst, ◌∙◌, length, set, Option, Some, None}
+use Rattle.std.proofs.Common.{◌≡◌, ℕ, ℤ, List, [], ◌∷◌, Bool, true, false, cond, ◌||◌, ◌&&◌, ◌⊎◌, ⊎_elim, refl, ap, ap₂, sym, subst, ◌∙◌, length, set, Option, Some, None}
 use Rattle.std.proofs.lemmas.Bool.{false≢true, eqb-true}
 use Rattle.std.proofs.lemmas.List.{length-set}
 use Rattle.std.specs.Prelude.{◌==◌, nat_lt}
@@ -15,7 +15,7 @@ use Rattle.arr_view.specs.Views.{elements, positions, has}
 use Rattle.arr_ops.specs.declared.op.Op.{Op}
 use Rattle.arr_ops.specs.declared.op.Operand.{Operand}
 use Rattle.arr_ops.specs.declared.op.Operand.TheVariants.{Array, Number}
-use Rattle.arr_ops.specs.Ops.{outputs, inputs, freed, view_of, makes_base}
+use Rattle.arr_ops.specs.Ops.{inputs, freed, view_of, makes_base}
 use Rattle.arr_ops.specs.Memory.{Memory, Cell, Keeps, Drops, Becomes, Writes, changed, change, output_change, write, read, operand, first_numbers, computed, step, results, out_lengths, lengths_of, or_zero}
 use Rattle.arr_ops.specs.Fits.{Need, meets_need}
 use Rattle.arr_ops.proofs.Tests.{or_cases, test_all, both_right}
@@ -127,9 +127,9 @@ stored_step bases m g b home free h =
     subst (λ t. Stored (place_of bases b) (changed (cond t Drops (output_change g.out g.makes g.to (computed m g) b)) (m.bases b))) (sym free)
     (stored_output g (place_of bases b) (computed m g) b g.out g.makes (m.bases b)
     (λ o e t.
-        let w : Output g (place_of bases o.base) (computed m g) = output_of bases m g o home e in
-        let same : place_of bases o.base ≡ place_of bases b = ap (place_of bases) (eqb-true o.base b t) in
-        (w.type_is ∙ ap (λ (q : ℕ × Elem). q.1) same, subst (λ (q : ℕ × Elem). AllIn q.1 (computed m g)) same w.numbers, (λ k. w.all k ∙ ap (λ (q : ℕ × Elem). q.0) same)))
+    let w : Output g (place_of bases o.base) (computed m g) = output_of bases m g o home e in
+    let same : place_of bases o.base ≡ place_of bases b = ap (place_of bases) (eqb-true o.base b t) in
+    (w.type_is ∙ ap (λ (q : ℕ × Elem). q.1) same, subst (λ (q : ℕ × Elem). AllIn q.1 (computed m g)) same w.numbers, (λ k. w.all k ∙ ap (λ (q : ℕ × Elem). q.0) same)))
     h)
 
 -- ---- a base that is not there

@@ -1,19 +1,20 @@
 -- Bases that are freed one after another, and cuts, keep what holds.
-use Rattle.std.proofs.Common.{◌≡◌, ◌≢◌, ℕ, ◌+◌, ◌<◌, ◌≤◌, suc, List, [], ◌∷◌, ◌++◌, Bool, true, false, cond, not, ◌||◌, ◌&&◌, ◌⊎◌, inl, inr, refl, ap, ap₂, sym, subst, ◌∙◌, arith, length, length-append, append-nil, Option, Some, None}
+use Rattle.std.proofs.Common.{◌≡◌, ◌≢◌, ℕ, ◌<◌, ◌≤◌, List, [], ◌∷◌, ◌++◌, Bool, true, false, cond, not, ◌||◌, ◌&&◌, refl, ap, ap₂, sym, subst, ◌∙◌, arith, length, append-nil}
 use Rattle.std.proofs.lemmas.Bool.{false≢true, eqb-true, eqb-false, eq-eqb, ne_eqb}
 use Rattle.std.specs.Prelude.{◌==◌, nat_eq}
-use Rattle.std.specs.List.{AllByRecursion, list_any, list_all, filter}
+use Rattle.std.specs.List.{AllByRecursion, filter}
 use Rattle.arr_num.specs.declared.elem.Elem.{Elem}
 use Rattle.arr_num.specs.declared.elem.Elem.TheVariants.{U8, I32, I64, U64}
 use Rattle.arr_view.specs.Views.{has}
 use Rattle.arr_ops.specs.declared.op.Op.{Op}
-use Rattle.arr_ops.specs.Ops.{freed}
-use Rattle.arr_ops.specs.Memory.{eager, step, empty, computed, changed, Drops, Keeps}
+use Rattle.arr_ops.specs.Memory.{step, empty, changed, Drops, Keeps}
 use Rattle.arr_ops.specs.Formed.{well_formed}
 use Rattle.arr_ops.proofs.Pairs.{Pairs, All_weaker}
-use Rattle.arr_elab.specs.Steps.{printed, slot_count, slot_from, with_slot}
+use Rattle.arr_elab.specs.Steps.{printed}
+use Rattle.arr_ops.proofs.Spots.{all_two}
 use Rattle.arr_record.specs.Flushes.{Written, most, cut_list, cut, cut_if, append, free, free_each}
-use Rattle.arr_record.proofs.Home.{Home, place_of, all_with}
+use Rattle.arr_record.specs.Ledger.{lives}
+use Rattle.arr_record.proofs.Home.{Home, place_of}
 use Rattle.arr_record.proofs.Joined.{Allowed}
 use Rattle.arr_record.proofs.Kept.{Kept, now_of, live_after, kept_more, kept_cut, not_true}
 
@@ -88,9 +89,6 @@ going_free bases live past s base alive g =
 
 -- ---- one after another
 
-abbrev pub lives : List (ℕ × Elem) → ℕ → Bool
-lives bases b = list_any (λ (base : ℕ × Elem). base.0 == b) bases
-
 abbrev pub live_without : (ℕ → Bool) → List (ℕ × Elem) → ℕ → Bool
 live_without live bases b = live b && not (lives bases b)
 
@@ -124,7 +122,7 @@ going_alike bases live other past s e g = let same : live ≡ other = (λ i b. e
 later_live : (bases : List (ℕ × Elem)) (live : ℕ → Bool) (base : ℕ × Elem) (bs : List (ℕ × Elem)) → AllByRecursion (λ (other : ℕ × Elem). base.0 < other.0) bs
     → AllByRecursion (Lives bases live) bs → AllByRecursion (Lives bases (live_after live (free base))) bs
 later_live bases live base bs =
-    all_with (λ (other : ℕ × Elem). base.0 < other.0) (Lives bases live) (Lives bases (live_after live (free base)))
+    all_two (λ (other : ℕ × Elem). base.0 < other.0) (Lives bases live) (Lives bases (live_after live (free base)))
     (λ other l h. (ap₂ (λ x y. (x || false) && not (y || false)) h.0 (let ne : other.0 ≢ base.0 = (λ e. absurd (omega arith)) in ne_eqb other.0 base.0 ne), h.1)) bs
 
 pub going_frees : (bases : List (ℕ × Elem)) (bs : List (ℕ × Elem)) (live : ℕ → Bool) (past : List Op) (s : Written) → Pairs (λ (x y : ℕ × Elem). x.0 < y.0) bs → AllByRecursion (Lives bases live) bs

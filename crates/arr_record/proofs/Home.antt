@@ -1,5 +1,5 @@
 -- Operations that are at home among some bases, and lists of them that are formed.
-use Rattle.std.proofs.Common.{◌≡◌, ℕ, ◌+◌, ◌<◌, List, [], ◌∷◌, ◌++◌, Bool, true, false, not, ◌||◌, ◌&&◌, refl, ap, ap₂, sym, subst, ◌∙◌, arith, length, map, get_or, length-append}
+use Rattle.std.proofs.Common.{◌≡◌, ℕ, ◌+◌, ◌<◌, List, [], ◌∷◌, ◌++◌, Bool, true, false, not, ◌||◌, ◌&&◌, refl, ap, ap₂, sym, ◌∙◌, arith, length, map, get_or, length-append}
 use Rattle.std.proofs.lemmas.Bool.{eqb-true}
 use Rattle.std.proofs.lemmas.List.{get_or_append_left}
 use Rattle.std.specs.Prelude.{◌==◌, nat_lt}
@@ -10,11 +10,11 @@ use Rattle.arr_view.specs.Strided.{Strided}
 use Rattle.arr_view.specs.Views.{elements, positions}
 use Rattle.arr_ops.specs.declared.op.Op.{Op}
 use Rattle.arr_ops.specs.Ops.{outputs, inputs, views, freed}
-use Rattle.arr_ops.specs.Formed.{is_formed, well_formed, inside_made, same_types, typed, may_precede, slot_numbers, same_elem, all_pairs, slots_ascend, each_inside, each_typed}
+use Rattle.arr_ops.specs.Formed.{is_formed, well_formed, inside_made, same_types, typed, may_precede, slot_numbers, same_elem, all_pairs}
 use Rattle.arr_ops.proofs.Pairs.{Pairs, All_weaker}
 use Rattle.arr_ops.proofs.Tests.{test_all}
 use Rattle.arr_ops.proofs.Alike.{same_from}
-use Rattle.arr_ops.proofs.Spots.{all_left, all_right, all_mapped}
+use Rattle.arr_ops.proofs.Spots.{all_left, all_right, all_mapped, all_two}
 use Rattle.arr_ops.proofs.FitsLaw.{all_append}
 
 -- the length and type of a base
@@ -62,10 +62,6 @@ below_all bases f h =
 pub place_more : (bases more : List (ℕ × Elem)) (b : ℕ) → b < length bases → place_of (bases ++ more) b ≡ place_of bases b
 place_more bases more b l = get_or_append_left bases more (0, U8) b l
 
-pub all_with : {X : Type 0} (P Q R : X → Type 0) → ((x : X) → P x → Q x → R x) → (xs : List X) → AllByRecursion P xs → AllByRecursion Q xs → AllByRecursion R xs
-all_with P Q R f [] a b = tt
-all_with P Q R f (x ∷ xs) a b = (f x a.0 b.0, all_with P Q R f xs a.1 b.1)
-
 pub home_more : (bases more : List (ℕ × Elem)) (f : Op) → Home bases f → Home (bases ++ more) f
 home_more bases more f h =
     let below : AllByRecursion (λ (v : Strided). v.base < length bases) (views f) = (below_all bases f h).0 in
@@ -73,9 +69,9 @@ home_more bases more f h =
       well = h.well;
       typed_there = All_weaker (TypedAmong bases) (TypedAmong (bases ++ more))
           (λ p t. let l : p.0 < length bases = t.0 in (let n : length (bases ++ more) ≡ length bases + length more = length-append bases more in omega arith, t.1 ∙ ap (λ (q : ℕ × Elem). q.1) (sym (place_more bases more p.0 l)))) (typed f) h.typed_there;
-      inside = all_with (λ (v : Strided). v.base < length bases) (InsideAmong bases) (InsideAmong (bases ++ more))
+      inside = all_two (λ (v : Strided). v.base < length bases) (InsideAmong bases) (InsideAmong (bases ++ more))
           (λ v l t. ap (λ (q : ℕ × Elem). list_all (λ e. nat_lt e q.0) (elements v)) (place_more bases more v.base l) ∙ t) (views f) below h.inside;
-      whole = λ m. all_with (λ (v : Strided). v.base < length bases) (WholeAmong bases) (WholeAmong (bases ++ more))
+      whole = λ m. all_two (λ (v : Strided). v.base < length bases) (WholeAmong bases) (WholeAmong (bases ++ more))
           (λ v l t. t ∙ ap (λ (q : ℕ × Elem). q.0) (sym (place_more bases more v.base l))) (outputs f) (all_left (λ (v : Strided). v.base < length bases) (outputs f) (inputs f) below) (h.whole m);
     }
 

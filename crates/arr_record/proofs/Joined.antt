@@ -1,7 +1,7 @@
 -- One more operation in a list that waits: the order of the list, and the memory from which it runs.
-use Rattle.std.proofs.Common.{◌≡◌, ◌≢◌, ℕ, ◌+◌, ◌<◌, List, [], ◌∷◌, ◌++◌, Bool, true, false, not, ◌||◌, ◌&&◌, ◌⊎◌, inl, inr, ⊎_elim, refl, ap, ap₂, sym, subst, ◌∙◌, arith, length, map, Option, Some, None}
+use Rattle.std.proofs.Common.{◌≡◌, ◌≢◌, ℕ, ◌<◌, List, [], ◌∷◌, ◌++◌, Bool, true, false, not, ◌||◌, ◌&&◌, ◌⊎◌, inl, inr, ⊎_elim, refl, ap, ap₂, sym, ◌∙◌, arith, length, map, Option, Some, None}
 use Rattle.std.proofs.lemmas.Bool.{false≢true, ne_eqb, eq-eqb}
-use Rattle.std.specs.Prelude.{◌==◌, nat_eq, nat_lt, is_none}
+use Rattle.std.specs.Prelude.{◌==◌, nat_lt, is_none}
 use Rattle.std.specs.List.{AllByRecursion, list_all, list_any}
 use Rattle.std.specs.Option.{option_to_list}
 use Rattle.arr_num.specs.declared.elem.Elem.{Elem}
@@ -10,14 +10,14 @@ use Rattle.arr_view.specs.Views.{elements, has}
 use Rattle.arr_ops.specs.declared.op.Op.{Op}
 use Rattle.arr_ops.specs.Ops.{outputs, inputs, views, freed, named, makes_base, creates}
 use Rattle.arr_ops.specs.Memory.{Memory}
-use Rattle.arr_ops.specs.Formed.{may_precede, typed}
+use Rattle.arr_ops.specs.Formed.{may_precede}
 use Rattle.arr_ops.specs.Fits.{Need, needs, meets_need, op_fits}
 use Rattle.arr_ops.proofs.Pairs.{Pairs, All_weaker}
 use Rattle.arr_ops.proofs.Tests.{test_all, or_cases, both_left, both_right, all_of}
-use Rattle.arr_ops.proofs.Spots.{all_left, all_right}
+use Rattle.arr_ops.proofs.Spots.{all_two, all_left, all_right}
 use Rattle.arr_ops.proofs.Fits.{or_first, or_second}
 use Rattle.arr_ops.proofs.FitsLaw.{all_append, all_map}
-use Rattle.arr_record.proofs.Home.{Home, place_of, below_all, all_with, typed_parts, TypedAmong, InsideAmong}
+use Rattle.arr_record.proofs.Home.{Home, place_of, below_all, typed_parts, TypedAmong, InsideAmong}
 use Rattle.arr_record.proofs.Cells.{Stored, meets_stored}
 
 -- it names live bases alone, and makes the next one
@@ -54,7 +54,7 @@ pub precedes : (bases : List (ℕ × Elem)) (live : ℕ → Bool) (f g : Op) →
 precedes bases live f g home gone a =
     ap₂ (λ x y. x && y) (made_new g.makes a.makes)
     (test_all (λ b. not (has (named g) b)) (freed f)
-    (all_with (λ b. live b ≡ false) (λ b. b < length bases) (λ b. not (has (named g) b) ≡ true)
+    (all_two (λ b. live b ≡ false) (λ b. b < length bases) (λ b. not (has (named g) b) ≡ true)
     (λ b dead l. ap not (none_has (named g) b
     (All_weaker (λ n. (live n ≡ true) ⊎ (n ≡ length bases)) (λ n. n ≢ b)
     (λ n t e. ⊎_elim (λ alive. false≢true (sym dead ∙ ap live (sym e) ∙ alive)) (λ same. absurd (omega arith)) t) (named g) (reached bases live g a))))

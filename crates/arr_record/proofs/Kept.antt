@@ -2,26 +2,27 @@
 use Rattle.std.proofs.Common.{◌≡◌, ℕ, ◌+◌, ◌<◌, ◌≤◌, suc, List, [], ◌∷◌, ◌++◌, Bool, true, false, not, ◌||◌, ◌&&◌, ◌⊎◌, inl, inr, ⊎_elim, refl, ap, ap₂, sym, subst, ◌∙◌, arith, length, length-append, append_assoc, append-nil, map, Option, Some, None}
 use Rattle.std.proofs.lemmas.Bool.{false≢true, eqb-true, eq-eqb}
 use Rattle.std.specs.Prelude.{◌==◌, nat_eq}
-use Rattle.std.specs.List.{AllByRecursion, list_all, list_any, filter, flat_map, range_with_len}
+use Rattle.std.specs.List.{AllByRecursion, list_any, filter, flat_map, range_with_len}
 use Rattle.std.specs.Option.{option_to_list}
 use Rattle.arr_num.specs.declared.elem.Elem.{Elem}
-use Rattle.arr_num.specs.declared.code.Code.{Code}
 use Rattle.arr_view.specs.Strided.{Strided}
 use Rattle.arr_view.specs.Views.{has, positions}
 use Rattle.arr_ops.specs.declared.op.Op.{Op}
-use Rattle.arr_ops.specs.Ops.{outputs, inputs, freed, makes_base, creates}
-use Rattle.arr_ops.specs.Memory.{Memory, Slot, eager, step, empty, computed}
+use Rattle.arr_ops.specs.Ops.{outputs, freed, makes_base, creates}
+use Rattle.arr_ops.specs.Memory.{Memory, eager, step, empty}
 use Rattle.arr_ops.specs.Formed.{is_formed, may_precede, slot_numbers}
-use Rattle.arr_ops.specs.Fits.{fits, op_fits}
+use Rattle.arr_ops.specs.Fits.{op_fits}
 use Rattle.arr_ops.proofs.Pairs.{Pairs, All_weaker}
 use Rattle.arr_ops.proofs.Tests.{test_all, or_cases, both_left, both_right}
 use Rattle.arr_ops.proofs.Fits.{or_first, or_second}
 use Rattle.arr_ops.proofs.FitsLaw.{all_append}
+use Rattle.arr_elab.specs.Recording.{made_by}
 use Rattle.arr_elab.specs.Steps.{printed, slot_count, slot_from}
+use Rattle.arr_ops.proofs.Spots.{all_two}
 use Rattle.arr_record.specs.Flushes.{most}
-use Rattle.arr_record.specs.Runs.{after_list, after_lists, printed_lists, each_fits, without_slots}
+use Rattle.arr_record.specs.Runs.{after_list, after_lists, printed_lists, each_fits}
 use Rattle.arr_record.proofs.Runs.{eager_append, after_lists_more, printed_lists_more, each_fits_more, printed_more, slot_cases, slot_count_more, range_more, shown_at, content}
-use Rattle.arr_record.proofs.Home.{Home, place_of, place_more, below_all, home_more, formed_if, all_with}
+use Rattle.arr_record.proofs.Home.{Home, place_of, place_more, below_all, home_more, formed_if}
 use Rattle.arr_record.proofs.Cells.{Stored, stored_step, absent_step}
 use Rattle.arr_record.proofs.Joined.{Allowed, precedes, pairs_more, fits_more, last_fits, creates_more, creates_last}
 
@@ -76,14 +77,14 @@ slots_joined ops op e h =
     slot_numbers_more ops op ∙ ap (λ ss. ss ++ option_to_list op.slot) h
     ∙ ⊎_elim
     (λ c.
-        let none : op.slot ≡ None = e ∙ c.0 in
-        let zero_more : length (option_to_list op.slot) ≡ 0 = ap (λ s. length (option_to_list s)) none in
-        ap (λ s. range_with_len 1 n ++ option_to_list s) none ∙ append-nil (range_with_len 1 n) ∙ ap (range_with_len 1) (let k : n ≡ slot_count (ops ++ op ∷ []) = omega arith in k))
+    let none : op.slot ≡ None = e ∙ c.0 in
+    let zero_more : length (option_to_list op.slot) ≡ 0 = ap (λ s. length (option_to_list s)) none in
+    ap (λ s. range_with_len 1 n ++ option_to_list s) none ∙ append-nil (range_with_len 1 n) ∙ ap (range_with_len 1) (let k : n ≡ slot_count (ops ++ op ∷ []) = omega arith in k))
     (λ c.
-        let some : op.slot ≡ Some (suc n) = e ∙ c.0 in
-        let one_more : length (option_to_list op.slot) ≡ 1 = ap (λ s. length (option_to_list s)) some in
-        ap (λ s. range_with_len 1 n ++ option_to_list s) some ∙ ap (λ k. range_with_len 1 n ++ k ∷ []) (let k : suc n ≡ 1 + n = omega arith in k)
-        ∙ sym (range_more 1 n) ∙ ap (range_with_len 1) (let k : suc n ≡ slot_count (ops ++ op ∷ []) = omega arith in k))
+    let some : op.slot ≡ Some (suc n) = e ∙ c.0 in
+    let one_more : length (option_to_list op.slot) ≡ 1 = ap (λ s. length (option_to_list s)) some in
+    ap (λ s. range_with_len 1 n ++ option_to_list s) some ∙ ap (λ k. range_with_len 1 n ++ k ∷ []) (let k : suc n ≡ 1 + n = omega arith in k)
+    ∙ sym (range_more 1 n) ∙ ap (range_with_len 1) (let k : suc n ≡ slot_count (ops ++ op ∷ []) = omega arith in k))
     (slot_cases (suc n) op.code)
 
 -- ---- one more operation
@@ -111,10 +112,6 @@ made_is_next bases None makes b h t = absurd (false≢true (both_right makes fal
 made_is_next bases (Some o) makes b h t =
     or_cases (o.base == b) false (both_right makes _ t) (λ e. sym (eqb-true o.base b e) ∙ (h (both_left makes _ t)).0) (λ e. absurd (false≢true e))
 
--- what it makes
-abbrev pub made_of : Op → List (ℕ × Elem)
-made_of op = map (λ (o : Strided). (positions o.lengths, op.to)) (filter (λ _. op.makes) (outputs op))
-
 one_made : (out : Option Strided) (makes : Bool) (t : Elem) (b : ℕ) → (makes && list_any (λ (o : Strided). o.base == b) (option_to_list out)) ≡ true
     → length {A = ℕ × Elem} (map (λ (o : Strided). (positions o.lengths, t)) (filter (λ _. makes) (option_to_list out))) ≡ 1
 one_made None makes t b h = absurd (false≢true (both_right makes false h))
@@ -126,17 +123,17 @@ itself [] = tt
 itself (b ∷ bs) = (or_first (nat_eq b b) _ (eq-eqb b b refl), All_weaker (λ c. has bs c ≡ true) (λ c. has (b ∷ bs) c ≡ true) (λ c t. or_second (nat_eq c b) _ t) bs (itself bs))
 
 module _ (bases : List (ℕ × Elem)) (live : ℕ → Bool) (past : List Op) (lists : List (List Op)) (waiting : List Op) (g : Op)
-    (k : Kept bases live past lists waiting) (a : Allowed bases live g) (g_home : Home (bases ++ made_of g) g) where
+    (k : Kept bases live past lists waiting) (a : Allowed bases live g) (g_home : Home (bases ++ made_by g) g) where
   more : List (ℕ × Elem)
-  more = bases ++ made_of g
+  more = bases ++ made_by g
 
-  longer : length bases ≤ length (bases ++ made_of g)
-  longer = let n : length (bases ++ made_of g) ≡ length bases + length (made_of g) = length-append bases (made_of g) in omega arith
+  longer : length bases ≤ length (bases ++ made_by g)
+  longer = let n : length (bases ++ made_by g) ≡ length bases + length (made_by g) = length-append bases (made_by g) in omega arith
 
-  stored_more : (b : ℕ) (m : Memory) → live b ≡ true → Stored (place_of bases b) (m.bases b) → Stored (place_of (bases ++ made_of g) b) (m.bases b)
-  stored_more b m l s = subst (λ p. Stored p (m.bases b)) (sym (place_more bases (made_of g) b (k.below b l))) s
+  stored_more : (b : ℕ) (m : Memory) → live b ≡ true → Stored (place_of bases b) (m.bases b) → Stored (place_of (bases ++ made_by g) b) (m.bases b)
+  stored_more b m l s = subst (λ p. Stored p (m.bases b)) (sym (place_more bases (made_by g) b (k.below b l))) s
 
-  source_more : (b : ℕ) → live b ≡ true → (creates waiting b ≡ true) ⊎ Stored (place_of (bases ++ made_of g) b) ((start_of lists).bases b)
+  source_more : (b : ℕ) → live b ≡ true → (creates waiting b ≡ true) ⊎ Stored (place_of (bases ++ made_by g) b) ((start_of lists).bases b)
   source_more b l = ⊎_elim (λ t. inl t) (λ s. inr (stored_more b (start_of lists) l s)) (k.source b l)
 
   -- live after it: live before it or made by it, and not freed
@@ -152,13 +149,13 @@ module _ (bases : List (ℕ × Elem)) (live : ℕ → Bool) (past : List Op) (li
 
   still_gone : (f : Op) → Home bases f → AllByRecursion (λ b. live b ≡ false) (freed f) → AllByRecursion (λ b. live_after live g b ≡ false) (freed f)
   still_gone f h =
-      all_with (λ b. b < length bases) (λ b. live b ≡ false) (λ b. live_after live g b ≡ false)
+      all_two (λ b. b < length bases) (λ b. live b ≡ false) (λ b. live_after live g b ≡ false)
       (λ b l dead. ap₂ (λ x y. (x || y) && not (has (freed g) b)) dead (never_made b l)) (freed f) (below_all bases f h).1
 
-  now_more : (b : ℕ) → live_after live g b ≡ true → Stored (place_of (bases ++ made_of g) b) ((step (now_of lists waiting) g).bases b)
+  now_more : (b : ℕ) → live_after live g b ≡ true → Stored (place_of (bases ++ made_by g) b) ((step (now_of lists waiting) g).bases b)
   now_more b h =
       let w = was b h in
-      stored_step (bases ++ made_of g) (now_of lists waiting) g b g_home w.1
+      stored_step (bases ++ made_by g) (now_of lists waiting) g b g_home w.1
       (⊎_elim (λ t. inr (stored_more b (now_of lists waiting) t (k.stored b t))) (λ t. inl t) w.0)
 
   absent_more : (b : ℕ) → live_after live g b ≡ false → (step (now_of lists waiting) g).bases b ≡ None
@@ -166,18 +163,18 @@ module _ (bases : List (ℕ × Elem)) (live : ℕ → Bool) (past : List Op) (li
       absent_step (now_of lists waiting) g b
       (⊎_elim (λ t. inl t) (λ t. let n = or_not (live b) (makes_base g b) t in inr (k.absent b n.0, n.1)) (and_not (live b || makes_base g b) (has (freed g) b) h))
 
-  below_more : (b : ℕ) → live_after live g b ≡ true → b < length (bases ++ made_of g)
+  below_more : (b : ℕ) → live_after live g b ≡ true → b < length (bases ++ made_by g)
   below_more b h =
       ⊎_elim
-      (λ t. let l : b < length bases = k.below b t in let n : length bases ≤ length (bases ++ made_of g) = longer in omega arith)
+      (λ t. let l : b < length bases = k.below b t in let n : length bases ≤ length (bases ++ made_by g) = longer in omega arith)
       (λ t.
-          let n : length (bases ++ made_of g) ≡ length bases + length (made_of g) = length-append bases (made_of g) in
-          let one : length (made_of g) ≡ 1 = one_made g.out g.makes g.to b t in
-          let next : b ≡ length bases = made_is_next bases g.out g.makes b a.makes t in
-          omega arith)
+      let n : length (bases ++ made_by g) ≡ length bases + length (made_by g) = length-append bases (made_by g) in
+      let one : length (made_by g) ≡ 1 = one_made g.out g.makes g.to b t in
+      let next : b ≡ length bases = made_is_next bases g.out g.makes b a.makes t in
+      omega arith)
       (was b h).0
 
-  source_after : (b : ℕ) → live_after live g b ≡ true → (creates (waiting ++ g ∷ []) b ≡ true) ⊎ Stored (place_of (bases ++ made_of g) b) ((start_of lists).bases b)
+  source_after : (b : ℕ) → live_after live g b ≡ true → (creates (waiting ++ g ∷ []) b ≡ true) ⊎ Stored (place_of (bases ++ made_by g) b) ((start_of lists).bases b)
   source_after b h =
       ⊎_elim
       (λ t. ⊎_elim (λ c. inl (creates_more waiting g b c)) (λ s. inr s) (source_more b t))
@@ -186,35 +183,35 @@ module _ (bases : List (ℕ × Elem)) (live : ℕ → Bool) (past : List Op) (li
 
   fits_last : op_fits (start_of lists) (waiting ++ g ∷ []) g ≡ true
   fits_last =
-      last_fits (bases ++ made_of g) live (start_of lists) waiting g source_more g_home a.writes a.reads a.frees
+      last_fits (bases ++ made_by g) live (start_of lists) waiting g source_more g_home a.writes a.reads a.frees
       (λ e. All_weaker (λ (o : Strided). o.base ≡ length bases) (λ (o : Strided). (start_of lists).bases o.base ≡ None)
       (λ o t. k.unmade o.base (let l : length bases ≤ o.base = omega arith in l)) (outputs g) (a.makes e)) k.bare
 
   pub kept_more : (later : List Op) → g.slot ≡ slot_from (suc (slot_count waiting)) g.code → length waiting < most
       → ((b : ℕ) → live_after live g b ≡ true → (step (now_of lists waiting) g).bases b ≡ (eager empty later).bases b)
       → printed empty past ++ shown_at g.slot (content (now_of lists waiting) g) ≡ printed empty later
-      → Kept (bases ++ made_of g) (live_after live g) later lists (waiting ++ g ∷ [])
+      → Kept (bases ++ made_by g) (live_after live g) later lists (waiting ++ g ∷ [])
   kept_more later slot few same prints =
       let run : now_of lists (waiting ++ g ∷ []) ≡ step (now_of lists waiting) g = eager_append (start_of lists) waiting (g ∷ []) in
       record {
         lawful = k.lawful;
         fitting = k.fitting;
         few = let n : length (waiting ++ g ∷ []) ≡ length waiting + 1 = length-append waiting (g ∷ []) in omega arith;
-        home = all_append (Home (bases ++ made_of g)) waiting (g ∷ []) (All_weaker (Home bases) (Home (bases ++ made_of g)) (λ f h. home_more bases (made_of g) f h) waiting k.home) (g_home, tt);
+        home = all_append (Home (bases ++ made_by g)) waiting (g ∷ []) (All_weaker (Home bases) (Home (bases ++ made_by g)) (λ f h. home_more bases (made_by g) f h) waiting k.home) (g_home, tt);
         slots = slots_joined waiting g slot k.slots;
         order = pairs_more (λ f h. may_precede f h ≡ true) waiting g k.order
-            (all_with (Home bases) (λ f. AllByRecursion (λ b. live b ≡ false) (freed f)) (λ f. may_precede f g ≡ true) (λ f h d. precedes bases live f g h d a) waiting k.home k.gone);
+            (all_two (Home bases) (λ f. AllByRecursion (λ b. live b ≡ false) (freed f)) (λ f. may_precede f g ≡ true) (λ f h d. precedes bases live f g h d a) waiting k.home k.gone);
         fits_start = all_append (λ f. op_fits (start_of lists) (waiting ++ g ∷ []) f ≡ true) waiting (g ∷ [])
             (All_weaker (λ f. op_fits (start_of lists) waiting f ≡ true) (λ f. op_fits (start_of lists) (waiting ++ g ∷ []) f ≡ true) (λ f t. fits_more (start_of lists) waiting g f t) waiting k.fits_start)
             (fits_last, tt);
         gone = all_append (λ f. AllByRecursion (λ b. live_after live g b ≡ false) (freed f)) waiting (g ∷ [])
-            (all_with (Home bases) (λ f. AllByRecursion (λ b. live b ≡ false) (freed f)) (λ f. AllByRecursion (λ b. live_after live g b ≡ false) (freed f)) (λ f h d. still_gone f h d) waiting k.home k.gone)
+            (all_two (Home bases) (λ f. AllByRecursion (λ b. live b ≡ false) (freed f)) (λ f. AllByRecursion (λ b. live_after live g b ≡ false) (freed f)) (λ f h d. still_gone f h d) waiting k.home k.gone)
             (All_weaker (λ b. has (freed g) b ≡ true) (λ b. live_after live g b ≡ false) (λ b t. freed_not b t) (freed g) (itself (freed g)), tt);
         below = below_more;
-        unmade = λ b l. k.unmade b (let n : length bases ≤ length (bases ++ made_of g) = longer in omega arith);
+        unmade = λ b l. k.unmade b (let n : length bases ≤ length (bases ++ made_by g) = longer in omega arith);
         bare = k.bare;
         source = source_after;
-        stored = λ b h. subst (λ (m : Memory). Stored (place_of (bases ++ made_of g) b) (m.bases b)) (sym run) (now_more b h);
+        stored = λ b h. subst (λ (m : Memory). Stored (place_of (bases ++ made_by g) b) (m.bases b)) (sym run) (now_more b h);
         absent = λ b h. ap (λ (m : Memory). m.bases b) run ∙ absent_more b h;
         same = λ b h. ap (λ (m : Memory). m.bases b) run ∙ same b h;
         prints = ap (λ ss. printed_lists empty lists ++ ss) (printed_more (start_of lists) waiting g slot)
@@ -237,12 +234,14 @@ kept_cut bases live past lists waiting some k =
     let start : start_of (lists ++ waiting ∷ []) ≡ after_list (start_of lists) waiting = after_lists_more empty lists waiting in
     let bases_are : (b : ℕ) → (start_of (lists ++ waiting ∷ [])).bases b ≡ (now_of lists waiting).bases b = λ b. ap (λ (m : Memory). m.bases b) start in
     record {
-      lawful = all_append Lawful lists (waiting ∷ []) k.lawful
-          (record {
-            formed = formed_if bases waiting k.home (k.slots ∙ ap (range_with_len 1) (sym (ap length (slot_list waiting)))) k.order;
-            some = some;
-            few = k.few;
-          }, tt);
+      lawful = all_append Lawful lists (waiting ∷ []) k.lawful (
+        record {
+          formed = formed_if bases waiting k.home (k.slots ∙ ap (range_with_len 1) (sym (ap length (slot_list waiting)))) k.order;
+          some = some;
+          few = k.few;
+        },
+        tt,
+      );
       fitting = each_fits_more empty lists waiting k.fitting (test_all (op_fits (start_of lists) waiting) waiting k.fits_start);
       few = omega arith;
       home = tt;

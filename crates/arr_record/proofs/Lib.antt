@@ -7,3 +7,7 @@ pub mod Recorded
 pub mod Freed
 pub mod Walk
 pub mod Few
+pub mod Named
+pub mod Loose
+pub mod Ledgers
+pub mod Following

@@ -1,12 +1,12 @@
 -- A recorded operation that may come next is at home and allowed.
-use Rattle.std.proofs.Common.{◌≡◌, ℕ, ◌+◌, ◌<◌, ◌≤◌, zero, suc, List, [], ◌∷◌, ◌++◌, Bool, true, false, cond, not, ◌||◌, ◌&&◌, ◌⊎◌, inl, inr, ⊎_elim, refl, ap, ap₂, sym, subst, ◌∙◌, arith, length, length-append, map, Option, Some, None}
+use Rattle.std.proofs.Common.{◌≡◌, ℕ, ◌+◌, ◌<◌, ◌≤◌, zero, suc, List, [], ◌∷◌, ◌++◌, Bool, true, false, cond, not, ◌||◌, ◌&&◌, refl, ap, ap₂, sym, subst, ◌∙◌, arith, length, length-append, map, Option, Some, None}
 use Rattle.std.proofs.lemmas.Bool.{false≢true, eqb-true, ltb-true, lt-ltb}
 use Rattle.std.proofs.Math.Seq.{get_or-append_seam}
-use Rattle.std.specs.Prelude.{◌==◌, nat_lt, nat_le, is_none, is_some}
-use Rattle.std.specs.List.{AllByRecursion, list_all, list_any, filter, range_with_len}
+use Rattle.std.specs.Prelude.{◌==◌, nat_lt, is_none, is_some}
+use Rattle.std.specs.List.{AllByRecursion, list_all, filter, range_with_len}
 use Rattle.std.specs.Option.{option_to_list}
 use Rattle.arr_num.specs.declared.elem.Elem.{Elem}
-use Rattle.arr_num.specs.declared.elem.Elem.TheVariants.{U8, I32, I64, U64}
+use Rattle.arr_num.specs.declared.elem.Elem.TheVariants.{U8}
 use Rattle.arr_num.specs.declared.code.Code.{Code}
 use Rattle.arr_num.specs.declared.code.Code.TheVariants.{Sync}
 use Rattle.arr_view.specs.Strided.{Strided}
@@ -17,11 +17,11 @@ use Rattle.arr_ops.specs.Formed.{well_formed, is_whole, kind_kept, writes_once, 
 use Rattle.arr_ops.specs.Formed as lone
 use Rattle.arr_view.specs.Views.{is_view}
 use Rattle.arr_ops.proofs.Pairs.{All_weaker}
-use Rattle.arr_ops.proofs.Tests.{both_left, both_right, all_of, same_from_test, test_all}
+use Rattle.arr_ops.proofs.Tests.{both_left, both_right, all_of, same_from_test}
 use Rattle.arr_ops.proofs.Spots.{none_from, same_elem_is}
 use Rattle.arr_ops.proofs.FitsLaw.{all_append, all_map}
 use Rattle.arr_elab.specs.Steps.{with_slot, slot_from}
-use Rattle.arr_elab.specs.Recording.{Scene, is_live, stands, makes_next, may_act, made_by}
+use Rattle.arr_elab.specs.Recording.{Scene, is_live, stands, may_act, made_by}
 use Rattle.arr_record.proofs.Home.{Home, place_of, place_more, TypedAmong, InsideAmong, WholeAmong}
 use Rattle.arr_record.proofs.Joined.{Allowed}
 

@@ -1,10 +1,9 @@
 -- Lists and operations, one more at the end.
-use Rattle.std.proofs.Common.{◌≡◌, ◌≢◌, ℕ, ◌+◌, ◌<◌, ◌≤◌, zero, suc, List, [], ◌∷◌, ◌++◌, Bool, true, false, ◌&&◌, ◌⊎◌, inl, inr, ⊎_elim, refl, ap, ap₂, sym, subst, ◌∙◌, arith, Option, Some, None, length, length-append, append_assoc, append-nil, cond}
+use Rattle.std.proofs.Common.{◌≡◌, ◌≢◌, ℕ, ◌+◌, ◌<◌, ◌≤◌, zero, suc, List, [], ◌∷◌, ◌++◌, true, ◌&&◌, ◌⊎◌, inl, inr, ⊎_elim, refl, ap, ap₂, sym, ◌∙◌, arith, Option, Some, None, length, length-append, append_assoc, append-nil, cond}
 use Rattle.std.proofs.lemmas.Bool.{ne_eqb, eq-eqb}
 use Rattle.std.proofs.lemmas.Grind.{flat_map-append}
 use Rattle.std.specs.List.{flat_map, range_with_len}
 use Rattle.std.specs.Option.{option_to_list}
-use Rattle.std.specs.Prelude.{◌==◌}
 use Rattle.arr_num.specs.declared.code.Code.{Code}
 use Rattle.arr_num.specs.declared.code.Code.TheVariants.{Sync}
 use Rattle.arr_ops.specs.declared.op.Op.{Op}
@@ -97,15 +96,15 @@ printed_more m ops op e =
     ap (slots_to (slot_count (ops ++ op ∷ []))) (eager_append m ops (op ∷ []))
     ∙ ⊎_elim
     (λ h.
-        let none : op.slot ≡ None = e ∙ h.0 in
-        let zero_more : length (option_to_list op.slot) ≡ 0 = ap (λ s. length (option_to_list s)) none in
-        ap (λ k. slots_to k (step (eager m ops) op)) (let same : slot_count (ops ++ op ∷ []) ≡ n = omega arith in same)
-        ∙ slots_kept (eager m ops) op n none ∙ sym (append-nil (slots_to n (eager m ops))) ∙ ap (λ s. slots_to n (eager m ops) ++ shown_at s (content (eager m ops) op)) (sym none))
+    let none : op.slot ≡ None = e ∙ h.0 in
+    let zero_more : length (option_to_list op.slot) ≡ 0 = ap (λ s. length (option_to_list s)) none in
+    ap (λ k. slots_to k (step (eager m ops) op)) (let same : slot_count (ops ++ op ∷ []) ≡ n = omega arith in same)
+    ∙ slots_kept (eager m ops) op n none ∙ sym (append-nil (slots_to n (eager m ops))) ∙ ap (λ s. slots_to n (eager m ops) ++ shown_at s (content (eager m ops) op)) (sym none))
     (λ h.
-        let some : op.slot ≡ Some (suc n) = e ∙ h.0 in
-        let one_more : length (option_to_list op.slot) ≡ 1 = ap (λ s. length (option_to_list s)) some in
-        ap (λ k. slots_to k (step (eager m ops) op)) (let same : slot_count (ops ++ op ∷ []) ≡ suc n = omega arith in same)
-        ∙ slots_more (eager m ops) op n some ∙ ap (λ s. slots_to n (eager m ops) ++ shown_at s (content (eager m ops) op)) (sym some))
+    let some : op.slot ≡ Some (suc n) = e ∙ h.0 in
+    let one_more : length (option_to_list op.slot) ≡ 1 = ap (λ s. length (option_to_list s)) some in
+    ap (λ k. slots_to k (step (eager m ops) op)) (let same : slot_count (ops ++ op ∷ []) ≡ suc n = omega arith in same)
+    ∙ slots_more (eager m ops) op n some ∙ ap (λ s. slots_to n (eager m ops) ++ shown_at s (content (eager m ops) op)) (sym some))
     (slot_cases (suc n) op.code)
 
 pub slot_count_few : (ops : List Op) → slot_count ops ≤ length ops

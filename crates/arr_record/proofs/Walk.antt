@@ -1,6 +1,6 @@
 -- From the steps of a recording to the laws of its lists.
-use Rattle.std.proofs.Common.{◌≡◌, ℕ, ◌+◌, ◌<◌, ◌≤◌, suc, List, [], ◌∷◌, ◌++◌, Bool, true, false, cond, not, ◌||◌, ◌&&◌, ◌⊎◌, inl, inr, ⊎_elim, refl, ap, ap₂, sym, subst, ◌∙◌, arith, length, length-append, append_assoc, append-nil, map, Option, Some, None}
-use Rattle.std.proofs.lemmas.Bool.{false≢true, eqb-true, eq-eqb, ltb-true, ltb-false, le-ltb, leb-true}
+use Rattle.std.proofs.Common.{◌≡◌, ℕ, ◌+◌, ◌<◌, ◌≤◌, suc, List, [], ◌∷◌, ◌++◌, Bool, true, false, cond, not, ◌||◌, ◌&&◌, inl, inr, refl, ap, ap₂, sym, subst, ◌∙◌, arith, length, length-append, append_assoc, append-nil, map, Option, Some, None}
+use Rattle.std.proofs.lemmas.Bool.{false≢true, eqb-true, eq-eqb, ltb-true, ltb-false, le-ltb, le-leb, leb-true}
 use Rattle.std.proofs.lemmas.List.Folds.{list_any-append}
 use Rattle.std.specs.Prelude.{◌==◌, nat_lt, nat_le, is_some}
 use Rattle.std.specs.List.{AllByRecursion, list_any, list_all, filter}
@@ -11,31 +11,32 @@ use Rattle.arr_num.specs.declared.code.Code.TheVariants.{Sync}
 use Rattle.arr_view.specs.Strided.{Strided}
 use Rattle.arr_view.specs.Views.{has, positions}
 use Rattle.arr_ops.specs.declared.op.Op.{Op}
-use Rattle.arr_ops.specs.Ops.{outputs, inputs, freed, makes_base}
+use Rattle.arr_ops.specs.Ops.{outputs, inputs, makes_base}
 use Rattle.arr_ops.specs.Memory.{Memory, Slot, eager, step, empty, computed}
 use Rattle.arr_ops.proofs.Pairs.{Pairs, All_weaker, Pairs_weaker, All_filter, Pairs_filter}
-use Rattle.arr_ops.proofs.Tests.{or_cases, both_left, both_right}
+use Rattle.arr_ops.specs.Formed.{is_formed}
+use Rattle.arr_ops.proofs.Tests.{or_cases, both_left, both_right, test_all}
 use Rattle.arr_ops.proofs.Fits.{or_first, or_second}
 use Rattle.arr_ops.proofs.FitsLaw.{all_append, all_map}
 use Rattle.arr_elab.specs.declared.step.Step.{Step}
 use Rattle.arr_elab.specs.declared.step.Step.TheVariants.{Act, Name, Forget, Done, Cut}
-use Rattle.arr_elab.specs.Steps.{acts, slotted, printed, slot_count, slot_from, next_slot, with_slot}
+use Rattle.arr_elab.specs.Steps.{acts, slotted, printed, slot_count, slot_from, next_slot}
 use Rattle.arr_elab.specs.Recording.{Scene, opening, is_live, may_act, made_by, other_names, after_step, after_steps, is_recording, allowed}
-use Rattle.arr_record.specs.Flushes.{State, nothing_yet, most, cut, cut_if, append, next_op, made, done, is_named, unnamed, free_each, after, after_all, ended, flush_lists}
-use Rattle.arr_record.specs.Runs.{after_lists, printed_lists, each_fits}
+use Rattle.arr_ops.proofs.Spots.{all_two}
+use Rattle.arr_record.specs.Flushes.{State, nothing_yet, most, cut, next_op, made, done, unnamed, free_each, after, after_all, ended, flush_lists}
+use Rattle.arr_record.specs.Runs.{after_lists, printed_lists, each_fits, is_sized}
+use Rattle.arr_record.specs.Ledger.{lives}
+use Rattle.arr_record.proofs.Loose.{Rising}
 use Rattle.arr_record.proofs.Runs.{eager_append, printed_more, next_slot_is, shown_at, content}
-use Rattle.arr_record.proofs.Home.{Home, place_of, place_more, all_with, typed_parts, TypedAmong}
+use Rattle.arr_record.proofs.Home.{place_of, place_more, typed_parts, TypedAmong}
 use Rattle.arr_record.proofs.Cells.{computed_alike, left_alike}
-use Rattle.arr_record.proofs.Joined.{Allowed, pairs_more}
-use Rattle.arr_record.proofs.Kept.{Kept, Lawful, start_of, now_of, live_after, kept_more, not_true}
+use Rattle.arr_record.proofs.Joined.{pairs_more}
+use Rattle.arr_record.proofs.Kept.{Kept, Lawful, now_of, live_after, kept_more}
 use Rattle.arr_record.proofs.Recorded.{Recorded, recorded}
-use Rattle.arr_record.proofs.Freed.{Going, settled, going_cut, going_frees, going_alike, lives, live_without, lives_kept, rest_lives, all_live, Lives}
+use Rattle.arr_record.proofs.Freed.{Going, settled, going_cut, going_frees, going_alike, live_without, lives_kept, rest_lives, all_live, Lives}
 
 abbrev pub TypesOf : List (ℕ × Elem) → List (ℕ × Elem) → Type 0
 TypesOf bases live = AllByRecursion (λ (base : ℕ × Elem). base.1 ≡ (place_of bases base.0).1) live
-
-abbrev pub Rising : List (ℕ × Elem) → Type 0
-Rising live = Pairs (λ (x y : ℕ × Elem). x.0 < y.0) live
 
 -- after some steps, beside what a recording keeps to
 pub record Walked (scene : Scene) (past : List Op) (s : State) : Type 0 where
@@ -132,7 +133,7 @@ module _ (scene : Scene) (past : List Op) (s : State) (op : Op) (w : Walked scen
   types_after : TypesOf (scene.bases ++ made_by op) (s.live ++ made op)
   types_after =
       all_append (λ (base : ℕ × Elem). base.1 ≡ (place_of (scene.bases ++ made_by op) base.0).1) s.live (made op)
-      (all_with (λ (base : ℕ × Elem). base.0 < length scene.bases) (λ (base : ℕ × Elem). base.1 ≡ (place_of scene.bases base.0).1) (λ (base : ℕ × Elem). base.1 ≡ (place_of (scene.bases ++ made_by op) base.0).1)
+      (all_two (λ (base : ℕ × Elem). base.0 < length scene.bases) (λ (base : ℕ × Elem). base.1 ≡ (place_of scene.bases base.0).1) (λ (base : ℕ × Elem). base.1 ≡ (place_of (scene.bases ++ made_by op) base.0).1)
       (λ base l t. t ∙ ap (λ (q : ℕ × Elem). q.1) (sym (place_more scene.bases (made_by op) base.0 l))) s.live below w.types)
       (all_map (λ (base : ℕ × Elem). base.1 ≡ (place_of (scene.bases ++ made_by op) base.0).1) (λ (o : Strided). (o.base, op.to)) (filter (λ _. op.makes) (outputs op))
       (All_filter (λ (o : Strided). op.to ≡ (place_of (scene.bases ++ made_by op) o.base).1) (λ _. op.makes) (outputs op)
@@ -220,7 +221,7 @@ going_done bases past s g types rising =
     (Pairs_weaker (λ (x y : ℕ × Elem). x.0 < y.0) (λ (x y : ℕ × Elem). not (test x.0) ≡ true → not (test y.0) ≡ true → x.0 < y.0) (λ x y l _ _. l) s.live rising) in
     let alive : AllByRecursion (Lives bases (lives s.live)) (unnamed s.names s.live) =
     All_filter (Lives bases (lives s.live)) (λ (base : ℕ × Elem). not (test base.0)) s.live
-    (all_with (λ (base : ℕ × Elem). lives s.live base.0 ≡ true) (λ (base : ℕ × Elem). base.1 ≡ (place_of bases base.0).1) (λ (base : ℕ × Elem). not (test base.0) ≡ true → Lives bases (lives s.live) base)
+    (all_two (λ (base : ℕ × Elem). lives s.live base.0 ≡ true) (λ (base : ℕ × Elem). base.1 ≡ (place_of bases base.0).1) (λ (base : ℕ × Elem). not (test base.0) ≡ true → Lives bases (lives s.live) base)
     (λ base l t _. (l, t)) s.live (all_live s.live) types) in
     going_alike bases (live_without (lives s.live) (unnamed s.names s.live)) (lives (done s).live) past (free_each s.written (unnamed s.names s.live)) (rest_lives test s.live)
     (going_frees bases (unnamed s.names s.live) (lives s.live) past s.written pairs alive g)
@@ -295,7 +296,7 @@ walk (Forget n ∷ steps) scene past s h w = walk steps (record scene { names = 
 walk (Done ∷ steps) scene past s h w = walk steps (record scene { first = length scene.bases }) past (after s Done) h (walked_done scene past s w)
 walk (Cut ∷ steps) scene past s h w = walk steps scene past (after s Cut) h (walked_cut scene past s w)
 
-begun : Walked opening [] nothing_yet
+pub begun : Walked opening [] nothing_yet
 begun =
     record {
       going = record {
@@ -330,3 +331,44 @@ begun =
 
 pub recording : (steps : List Step) → is_recording steps ≡ true → Recording (slotted 1 (acts steps)) (flush_lists steps)
 recording steps h = walk steps opening [] nothing_yet h begun
+
+-- ---- step by step, as code goes
+
+pub record Reached (scene : Scene) (s : State) : Type 0 where
+  pub past : List Op
+  pub walked : Walked scene past s
+
+pub walked_step : (step : Step) (scene next : Scene) (past : List Op) (s : State) → Walked scene past s → after_step scene step ≡ Some next → Reached next (after s step)
+walked_step (Act op) scene next past s w e =
+    elim (may_act scene op) as (λ t. may_act scene op ≡ t → allowed t (scene_after scene op) ≡ Some next → Reached next (after s (Act op))) [
+      | true ↦ λ m f.
+          let same : scene_after scene op ≡ next = cc in
+          subst (λ n. Reached n (after s (Act op))) same (record { past = past ++ next_op past op ∷ []; walked = walked_act scene past s op w m })
+      | false ↦ λ m f. absurd (cc)
+    ] refl e
+walked_step (Name n b) scene next past s w e =
+    elim (is_live scene b) as (λ t. is_live scene b ≡ t → allowed t (record scene { names = (n, b) ∷ other_names n scene.names }) ≡ Some next → Reached next (after s (Name n b))) [
+      | true ↦ λ m f.
+          let named : Scene = record scene { names = (n, b) ∷ other_names n scene.names } in
+          let same : record scene { names = (n, b) ∷ other_names n scene.names } ≡ next = cc in
+          subst (λ t. Reached t (after s (Name n b))) same (record { past = past; walked = walked_name scene past s n b w m })
+      | false ↦ λ m f. absurd (cc)
+    ] refl e
+walked_step (Forget n) scene next past s w e =
+    let same : record scene { names = other_names n scene.names } ≡ next = cc in
+    subst (λ t. Reached t (after s (Forget n))) same (record { past = past; walked = walked_forget scene past s n w })
+walked_step Done scene next past s w e =
+    let same : record scene { first = length scene.bases } ≡ next = cc in
+    subst (λ t. Reached t (after s Done)) same (record { past = past; walked = walked_done scene past s w })
+walked_step Cut scene next past s w e =
+    let same : scene ≡ next = cc in
+    subst (λ t. Reached t (after s Cut)) same (record { past = past; walked = walked_cut scene past s w })
+
+-- the laws of the lists, as tests
+pub all_formed : (steps : List Step) → is_recording steps ≡ true → list_all is_formed (flush_lists steps) ≡ true
+all_formed steps h = test_all is_formed (flush_lists steps) (All_weaker Lawful (λ list. is_formed list ≡ true) (λ list l. l.formed) (flush_lists steps) (recording steps h).lawful)
+
+pub all_sized : (steps : List Step) → is_recording steps ≡ true → list_all is_sized (flush_lists steps) ≡ true
+all_sized steps h =
+    test_all is_sized (flush_lists steps)
+    (All_weaker Lawful (λ list. is_sized list ≡ true) (λ list l. ap₂ (λ x y. x && y) (le-leb 1 (length list) l.some) (le-leb (length list) most l.few)) (flush_lists steps) (recording steps h).lawful)

@@ -6,6 +6,8 @@ use Rattle.arr_ops.specs.declared.op.Op.{Op}
 use Rattle.arr_ops.specs.Examples as ops
 use Rattle.arr_elab.specs.declared.step.Step.{Step}
 use Rattle.arr_elab.specs.declared.step.Step.TheVariants.{Act, Name, Forget, Done, Cut}
+use Rattle.arr_view.specs.Views.{elements}
+use Rattle.arr_elab.specs.Recording.{is_recording}
 use Rattle.arr_elab.specs.Steps.{with_slot}
 use Rattle.arr_record.specs.Flushes.{flush_lists}
 
@@ -21,6 +23,10 @@ abbrev pub twice : List Step
 twice = Act count_two ∷ Name 0 0 ∷ Done ∷ Cut ∷ Done ∷ Cut ∷ Done ∷ Act (sync_of (ops.line 0 2)) ∷ Done ∷ []
 
 -- the second flush finds nothing waiting
+twice_recorded : is_recording twice ≡ true
+unfolding elements
+twice_recorded = refl
+
 twice_cut : flush_lists twice ≡ (count_two ∷ []) ∷ (ops.sync (ops.line 0 2) 1 ∷ ops.free 0 ∷ []) ∷ []
 twice_cut = refl
 
@@ -29,5 +35,9 @@ abbrev pub aliased : List Step
 aliased = Act count_two ∷ Name 0 0 ∷ Done ∷ Name 1 0 ∷ Done ∷ Forget 0 ∷ Done ∷ Cut ∷ Done ∷ Act (sync_of (ops.line 0 1)) ∷ Done ∷ []
 
 -- b still stands for the base
+aliased_recorded : is_recording aliased ≡ true
+unfolding elements
+aliased_recorded = refl
+
 aliased_cut : flush_lists aliased ≡ (count_two ∷ []) ∷ (ops.sync (ops.line 0 1) 1 ∷ ops.free 0 ∷ []) ∷ []
 aliased_cut = refl

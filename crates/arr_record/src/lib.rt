@@ -7,11 +7,10 @@
 #![tactic(auto)]
 
 mod flush;
-
-
+mod owners;
+mod recording;
 mod writer;
 
-use std::alloc::AllocError as NoMemory;
-
 pub use flush::Flush;
-
+pub use recording::flushes;
+use std::alloc::AllocError as NoMemory;

@@ -1,4 +1,4 @@
-use Rattle.std.proofs.Common.{◌≤◌, ◌<◌, length, arith}
+use Rattle.std.proofs.Common.{◌≤◌, length, arith}
 use Rattle.arr_elab.specs.Steps.{slot_count}
 use Rattle.arr_record.proofs.Runs.{slot_count_few}
 use Rattle.arr_record.proofs.writer.Writer.slot_for.Goals as goal
