@@ -1,0 +1,4 @@
+pub mod Cells
+pub mod Buffers
+pub mod Stored
+pub mod Tables
