@@ -2,3 +2,4 @@ pub mod Numbers
 pub mod Tables
 pub mod Lawful
 pub mod Updates
+pub mod Pages

@@ -17,9 +17,10 @@ pub(crate) struct Kept {
     buffer: Buffer,
 }
 
-/// The bases of a program, and what was loaded, stored and made.
+/// The bases of a program, and what was loaded, stored and made (docs/PLANS.md, "The store").
 ///
-/// `index` has at each base the key of its buffer, if it has one: a buffer that is kept for another base is none of its own.
+/// The index has at each base the key of its buffer. What it has at a base that is not there does not matter: the buffer at
+/// that key, if there is one, is kept for another base.
 #[derive(Debug, Drop)]
 pub struct Store {
     index: Vec<usize>,
@@ -44,7 +45,7 @@ impl Model for Store {
 }
 
 impl Store {
-    /// A store with no base, whose counters are 0.
+    /// A store with no base, whose counters are 0 (docs/PLANS.md, "The store"). An Err is want of memory.
     pub fn new(alloc: Global) -> Result<Store, NoMemory>
         ensures { IfOk result (λ s. s ≡ record { bases = finite.empty; loads = 0; stores = 0; made = 0 }) }
     {
@@ -57,7 +58,8 @@ impl Store {
         })
     }
 
-    /// Makes a buffer of so many zeros for a base that has none.
+    /// Makes a buffer of so many zeros for a base that has none, and counts it (docs/PLANS.md, "The store"). An Err is want of
+    /// memory, and then the store is as it was.
     pub fn make(&mut self, alloc: Global, base: u32, ty: Elem, length: u32) -> Result<(), NoMemory>
         requires absent { cells self.old base ≡ None }
         requires some { 1 ≤ length }
@@ -78,7 +80,7 @@ impl Store {
         Ok(())
     }
 
-    /// Ends a base.
+    /// Ends a base and gives its memory back (docs/PLANS.md, "The store").
     pub fn drop_base(&mut self, base: u32)
         requires { IsSome (cells self.old base) }
         ensures bases { cells self.new ≡ assigned (cells self.old) base None }
@@ -89,7 +91,8 @@ impl Store {
         let _ended = self.buffers.try_remove(self.index[base as usize]);
     }
 
-    /// The number at a place of a base, which is of the base's type.
+    /// The number at a place of a base, which is of the base's type; the bytes loaded rise by the width of that type
+    /// (docs/PLANS.md, "The store").
     #[inline]
     pub fn load(&mut self, base: u32, place: u32) -> i128
         requires there { place < size_at (cells self.old base) }
@@ -110,7 +113,8 @@ impl Store {
         }
     }
 
-    /// Changes the number at a place of a base to one of its type.
+    /// Changes the number at a place of a base to one of its type; the bytes stored rise by the width of that type
+    /// (docs/PLANS.md, "The store").
     #[inline]
     pub fn store(&mut self, base: u32, place: u32, value: i128)
         requires there { place < size_at (cells self.old base) }
@@ -130,7 +134,7 @@ impl Store {
         }
     }
 
-    /// How many bytes were loaded.
+    /// How many bytes were loaded (docs/PLANS.md, "The store").
     pub fn loads(&self) -> u64
         ensures value { result ≡ self.now.loads }
         ensures lawful { IsLawful (cells self.now) }
@@ -138,7 +142,7 @@ impl Store {
         self.loads
     }
 
-    /// How many bytes were stored.
+    /// How many bytes were stored (docs/PLANS.md, "The store").
     pub fn stores(&self) -> u64
         ensures value { result ≡ self.now.stores }
         ensures lawful { IsLawful (cells self.now) }
@@ -146,7 +150,7 @@ impl Store {
         self.stores
     }
 
-    /// How many buffers were made.
+    /// How many buffers were made (docs/PLANS.md, "The store").
     pub fn made(&self) -> u64
         ensures value { result ≡ self.now.made }
         ensures lawful { IsLawful (cells self.now) }
