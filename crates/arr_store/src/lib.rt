@@ -9,7 +9,7 @@
 //! slots takes memory. `load` and `store` take constant time: an index leads from the base to its buffer.
 //!
 //! The definitions: `specs/Stored.antt` has what a contract sees of a store, and its bases as a function from numbers to cells
-//! (`cells`), as `Memory` of arr_ops has them; `specs/Slots.antt` has the slots as such a function (`slots`) and the slots of a
+//! (`cells`), as `Memory` of arr_ops has them; `specs/Slots.antt` has the slots as such a function (`slots_of`) and the slots of a
 //! list (`blank_slots`); `specs/Cells.antt` what calls read of one cell, and `assigned`, a function changed at one number. How
 //! fields show these (`Buffers`, `Tables`, `Pages`) no clause names.
 #![tactic(auto)]
