@@ -2,3 +2,12 @@ pub mod Lists
 pub mod Bound
 pub mod Given
 pub mod Whole
+pub mod Moving
+pub mod Combining
+pub mod Rows
+pub mod Products
+pub mod Operands
+pub mod Results
+pub mod Outputs
+pub mod Steps
+pub mod Performing

@@ -8,7 +8,12 @@
 //! counted one in this call. Want of memory alone may come anywhere.
 #![tactic(auto)]
 
+mod computing;
 mod eager;
+mod folding;
+mod lengths;
+mod moves;
+mod perform;
 mod program;
 mod texts;
 mod words;

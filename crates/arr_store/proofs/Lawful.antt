@@ -18,7 +18,7 @@ zeros_in : (t : Elem) (n : ℕ) → list_all (in_type t) (replicate n (pos 0)) �
 zeros_in t zero = refl
 zeros_in t (suc n) = both _ _ (zero_in t) (zeros_in t n)
 
-set_in : (t : Elem) (zs : List ℤ) (p : ℕ) (z : ℤ) → in_type t z ≡ true → list_all (in_type t) zs ≡ true → list_all (in_type t) (set zs p z) ≡ true
+pub set_in : (t : Elem) (zs : List ℤ) (p : ℕ) (z : ℤ) → in_type t z ≡ true → list_all (in_type t) zs ≡ true → list_all (in_type t) (set zs p z) ≡ true
 set_in t [] p z h all = refl
 set_in t (x ∷ zs) zero z h all = both _ _ h (both_right (in_type t x) _ all)
 set_in t (x ∷ zs) (suc p) z h all = both _ _ (both_left _ _ all) (set_in t zs p z h (both_right (in_type t x) _ all))
