@@ -1,4 +1,7 @@
-pub mod Lists
-pub mod Bound
+pub mod Rows
 pub mod Given
+pub mod Writes
+pub mod Printed
+pub mod Turns
 pub mod Whole
+pub mod Ready

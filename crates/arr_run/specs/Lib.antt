@@ -1,5 +1,5 @@
 pub mod Words
 pub mod Texts
-pub mod Eager
-pub mod Shown
 pub mod Answers
+pub mod Shown
+pub mod Lists

@@ -1,0 +1,9 @@
+pub mod Moving
+pub mod Combining
+pub mod Rows
+pub mod Products
+pub mod Operands
+pub mod Results
+pub mod Outputs
+pub mod Steps
+pub mod Performing

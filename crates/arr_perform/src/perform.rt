@@ -1,0 +1,384 @@
+//! One operation after another, each read whole before it writes.
+ghost use Rattle.std.specs.Prelude.{◌≡◌, ◌+◌, ◌*◌, ◌≤◌, ◌<◌, ◌^◌, [], ◌∷◌, IsTrue, IsSome, IfOk, OnOk, Some, None, true, false, nat_le, length, map, pos};
+ghost use Rattle.std.specs.List.{list_all, range_with_len};
+ghost use Rattle.arr_view.specs.Views.{elements, positions};
+ghost use Rattle.arr_num.specs.Kinds.{Ending, Printing, is_element_wise, is_fold, kind};
+ghost use Rattle.arr_num.specs.Numbers.{in_type};
+ghost use Rattle.arr_ops.specs.Ops.{keeps_bases, view_of};
+ghost use Rattle.arr_ops.specs.Formed.{is_array, well_formed};
+ghost use Rattle.arr_ops.specs.Memory.{computed, eager, first_numbers, operand, put, results, step};
+ghost use Rattle.arr_ops.specs.Fits.{op_fits};
+ghost use Rattle.arr_store.specs.Cells.{assigned};
+ghost use Rattle.arr_store.specs.Slots.{slots_of};
+ghost use Rattle.arr_store.specs.Stored.{cells};
+ghost use Rattle.arr_perform.specs.Performed.{bare, can_run, can_run_all, lie_inside, memory};
+
+use crate::computing::applied;
+use crate::folding::{folded, scanned};
+use crate::lengths::product;
+use crate::moves::{fill_slot, read_view, write_view};
+use arr_num::{Code, Elem};
+use arr_ops::{Op, Operand};
+use arr_store::{Slots, Store};
+use arr_view::View;
+use std::alloc::{AllocError as NoMemory, Global};
+
+/// The numbers of an operand, one at each of `count` positions; a constant, and 0 for none, stands at each.
+fn operand_numbers(
+    alloc: Global,
+    source: &Option<Operand>,
+    count: u32,
+    store: &mut Store,
+) -> Result<Vec<i128>, NoMemory>
+    requires inside { list_all (λ v. lie_inside (elements v) (cells store.old v.base)) (view_of source.now) ≡ true }
+    requires room { store.old.loads + 8388608 ≤ 2 ^ 62 }
+    ensures numbers { IfOk result (λ v. v.items ≡ operand (memory store.old []) count source.now) }
+    ensures bases { store.new.bases ≡ store.old.bases }
+    ensures stores { store.new.stores ≡ store.old.stores }
+    ensures made { store.new.made ≡ store.old.made }
+    ensures loads { store.old.loads ≤ store.new.loads }
+    ensures few_loads { store.new.loads ≤ store.old.loads + 8388608 }
+{
+    match source {
+        Some(Operand::Array(view)) => read_view(alloc, view, store),
+        Some(Operand::Number(number)) => Ok(vec![in alloc; *number; count as usize]?),
+        None => Ok(vec![in alloc; 0; count as usize]?),
+    }
+}
+
+/// The positions, counted from 0.
+fn position_numbers(alloc: Global, count: u32) -> Result<Vec<i128>, NoMemory>
+    ensures { IfOk result (λ v. v.items ≡ map pos (range_with_len 0 count)) }
+{
+    let mut numbers = Vec::new(alloc);
+    for position in 0..count {
+        numbers.push(position as i128)?;
+    }
+    Ok(numbers)
+}
+
+/// The numbers of the first operand; RANGE has the positions.
+fn first_operand(
+    alloc: Global,
+    op: &Op,
+    count: u32,
+    store: &mut Store,
+) -> Result<Vec<i128>, NoMemory>
+    requires inside { list_all (λ v. lie_inside (elements v) (cells store.old v.base)) (view_of op.now.first) ≡ true }
+    requires room { store.old.loads + 8388608 ≤ 2 ^ 62 }
+    ensures numbers { IfOk result (λ v. v.items ≡ first_numbers op.now.code (memory store.old []) count op.now.first) }
+    ensures bases { store.new.bases ≡ store.old.bases }
+    ensures stores { store.new.stores ≡ store.old.stores }
+    ensures made { store.new.made ≡ store.old.made }
+    ensures loads { store.old.loads ≤ store.new.loads }
+    ensures few_loads { store.new.loads ≤ store.old.loads + 8388608 }
+{
+    match op.code {
+        Code::Range => position_numbers(alloc, count),
+        _ => operand_numbers(alloc, &op.first, count, store),
+    }
+}
+
+/// The results of an element-wise operation.
+fn element_wise(
+    alloc: Global,
+    op: &Op,
+    out: &View,
+    store: &mut Store,
+) -> Result<Vec<i128>, NoMemory>
+    requires well { well_formed op.now ≡ true }
+    requires code { IsTrue (is_element_wise op.now.code) }
+    requires out { op.now.out ≡ Some out.now }
+    requires fits { op_fits (bare (memory store.old [])) (op.now ∷ []) op.now ≡ true }
+    requires room { store.old.loads + 16777216 ≤ 2 ^ 62 }
+    ensures numbers { IfOk result (λ v. v.items ≡ computed (memory store.old []) op.now) }
+    ensures bases { store.new.bases ≡ store.old.bases }
+    ensures stores { store.new.stores ≡ store.old.stores }
+    ensures made { store.new.made ≡ store.old.made }
+    ensures loads { store.old.loads ≤ store.new.loads }
+    ensures few_loads { store.new.loads ≤ store.old.loads + 16777216 }
+{
+    let count = out.positions();
+    let left = first_operand(alloc, op, count, store)?;
+    let right = operand_numbers(alloc, &op.second, count, store)?;
+    applied(
+        alloc,
+        op.code,
+        op.to,
+        op.from,
+        left.as_slice(),
+        right.as_slice(),
+    )
+}
+
+/// The folds of numbers of a shape along an axis.
+fn axis_results(
+    alloc: Global,
+    code: Code,
+    ty: Elem,
+    shape: &[u32],
+    axis: usize,
+    numbers: &[i128],
+) -> Result<Vec<i128>, NoMemory>
+    requires code { IsTrue (is_fold code) }
+    requires each { list_all (nat_le 1) shape.now ≡ true }
+    requires few { positions shape.now ≤ 1048576 }
+    requires axis { axis < length shape.now }
+    requires typed { list_all (in_type ty) numbers.now ≡ true }
+    requires count { length numbers.now ≡ positions shape.now }
+    ensures { IfOk result (λ v. v.items ≡ results code ty shape.now axis numbers.now []) }
+{
+    let outer = product(&shape[..axis]);
+    let rows = shape[axis] as usize;
+    let inner = product(&shape[axis + 1..]);
+    match code {
+        Code::AddAccumulate | Code::MultiplyAccumulate => scanned(
+            alloc, code, ty, numbers, outer, rows, inner,
+        ),
+        _ => folded(alloc, code, ty, numbers, outer, rows, inner),
+    }
+}
+
+/// The results of a reduction or a scan.
+fn along_axis(
+    alloc: Global,
+    op: &Op,
+    input: &View,
+    axis: u8,
+    store: &mut Store,
+) -> Result<Vec<i128>, NoMemory>
+    requires well { well_formed op.now ≡ true }
+    requires code { IsTrue (is_fold op.now.code) }
+    requires input { op.now.first ≡ Some (Operand.Array input.now) }
+    requires axis { op.now.axis ≡ Some axis }
+    requires fits { op_fits (bare (memory store.old [])) (op.now ∷ []) op.now ≡ true }
+    requires room { store.old.loads + 16777216 ≤ 2 ^ 62 }
+    ensures numbers { IfOk result (λ v. v.items ≡ computed (memory store.old []) op.now) }
+    ensures bases { store.new.bases ≡ store.old.bases }
+    ensures stores { store.new.stores ≡ store.old.stores }
+    ensures made { store.new.made ≡ store.old.made }
+    ensures loads { store.old.loads ≤ store.new.loads }
+    ensures few_loads { store.new.loads ≤ store.old.loads + 16777216 }
+{
+    let numbers = read_view(alloc, input, store)?;
+    axis_results(
+        alloc,
+        op.code,
+        op.to,
+        input.shape(),
+        usize::from(axis),
+        numbers.as_slice(),
+    )
+}
+
+/// Makes a base and fills it.
+fn create_base(
+    alloc: Global,
+    ty: Elem,
+    out: &View,
+    numbers: &[i128],
+    store: &mut Store,
+) -> Result<(), NoMemory>
+    requires absent { cells store.old out.now.base ≡ None }
+    requires whole { elements out.now ≡ range_with_len 0 (positions out.now.lengths) }
+    requires count { length numbers.now ≡ positions out.now.lengths }
+    requires typed { list_all (in_type ty) numbers.now ≡ true }
+    requires room { store.old.stores + 8388608 ≤ 2 ^ 62 }
+    requires room_made { store.old.made < 2 ^ 62 }
+    ensures bases { OnOk result (cells store.new ≡ assigned (cells store.old) out.now.base (Some (record { elem = ty; numbers = numbers.now }))) }
+    ensures loads { store.new.loads ≡ store.old.loads }
+    ensures stores { store.old.stores ≤ store.new.stores }
+    ensures few_stores { store.new.stores ≤ store.old.stores + 8388608 }
+    ensures made { store.old.made ≤ store.new.made }
+    ensures few_made { store.new.made ≤ store.old.made + 1 }
+{
+    store.make(alloc, out.base(), ty, out.positions())?;
+    write_view(out, numbers, store);
+    Ok(())
+}
+
+/// Writes the results of an operation.
+fn put_out(
+    alloc: Global,
+    op: &Op,
+    out: &View,
+    numbers: &[i128],
+    store: &mut Store,
+) -> Result<(), NoMemory>
+    requires well { well_formed op.now ≡ true }
+    requires out { op.now.out ≡ Some out.now }
+    requires fits { op_fits (bare (memory store.old [])) (op.now ∷ []) op.now ≡ true }
+    requires count { length numbers.now ≡ positions out.now.lengths }
+    requires typed { list_all (in_type op.now.to) numbers.now ≡ true }
+    requires room { store.old.stores + 8388608 ≤ 2 ^ 62 }
+    requires room_made { store.old.made < 2 ^ 62 }
+    ensures bases { OnOk result (cells store.new ≡ (put (memory store.old []) op.now numbers.now).bases) }
+    ensures loads { store.new.loads ≡ store.old.loads }
+    ensures stores { store.old.stores ≤ store.new.stores }
+    ensures few_stores { store.new.stores ≤ store.old.stores + 8388608 }
+    ensures made { store.old.made ≤ store.new.made }
+    ensures few_made { store.new.made ≤ store.old.made + 1 }
+{
+    if op.makes {
+        return create_base(alloc, op.to, out, numbers, store);
+    }
+    write_view(out, numbers, store);
+    Ok(())
+}
+
+/// The view that an operand is.
+fn shown(operand: &Option<Operand>) -> &View
+    requires { is_array operand.now ≡ true }
+    ensures { operand.now ≡ Some (Operand.Array result.now) }
+{
+    match operand {
+        Some(Operand::Array(view)) => view,
+        Some(Operand::Number(_)) => unreachable!(),
+        None => unreachable!(),
+    }
+}
+
+/// The results of an operation that has an output.
+fn computed(alloc: Global, op: &Op, out: &View, store: &mut Store) -> Result<Vec<i128>, NoMemory>
+    requires well { well_formed op.now ≡ true }
+    requires out { op.now.out ≡ Some out.now }
+    requires fits { op_fits (bare (memory store.old [])) (op.now ∷ []) op.now ≡ true }
+    requires room { store.old.loads + 16777216 ≤ 2 ^ 62 }
+    ensures numbers { IfOk result (λ v. v.items ≡ computed (memory store.old []) op.now) }
+    ensures bases { store.new.bases ≡ store.old.bases }
+    ensures stores { store.new.stores ≡ store.old.stores }
+    ensures made { store.new.made ≡ store.old.made }
+    ensures loads { store.old.loads ≤ store.new.loads }
+    ensures few_loads { store.new.loads ≤ store.old.loads + 16777216 }
+{
+    match op.code {
+        Code::AddReduce
+        | Code::MultiplyReduce
+        | Code::MinimumReduce
+        | Code::MaximumReduce
+        | Code::AddAccumulate
+        | Code::MultiplyAccumulate => match op.axis {
+            Some(axis) => along_axis(alloc, op, shown(&op.first), axis, store),
+            None => unreachable!(),
+        },
+        _ => element_wise(alloc, op, out, store),
+    }
+}
+
+/// Ends the base that an operation frees.
+fn release(op: &Op, store: &mut Store)
+    requires well { well_formed op.now ≡ true }
+    requires code { kind op.now.code ≡ Ending }
+    requires fits { op_fits (bare (memory store.old [])) (op.now ∷ []) op.now ≡ true }
+    ensures bases { cells store.new ≡ (step (memory store.old []) op.now).bases }
+    ensures loads { store.new.loads ≡ store.old.loads }
+    ensures stores { store.new.stores ≡ store.old.stores }
+    ensures made { store.new.made ≡ store.old.made }
+{
+    match op.frees {
+        Some(base) => store.drop_base(base),
+        None => unreachable!(),
+    }
+}
+
+/// Copies what an operation shows into its slot.
+fn show(alloc: Global, op: &Op, store: &mut Store, slots: &mut Slots) -> Result<(), NoMemory>
+    requires well { well_formed op.now ≡ true }
+    requires code { kind op.now.code ≡ Printing }
+    requires runs { can_run (memory store.old slots.old) op.now ≡ true }
+    requires room { store.old.loads + 8388608 ≤ 2 ^ 62 }
+    ensures bases { store.new.bases ≡ store.old.bases }
+    ensures slots { OnOk result (slots_of slots.new ≡ (step (memory store.old slots.old) op.now).slots) }
+    ensures stores { store.new.stores ≡ store.old.stores }
+    ensures made { store.new.made ≡ store.old.made }
+    ensures loads { store.old.loads ≤ store.new.loads }
+    ensures few_loads { store.new.loads ≤ store.old.loads + 8388608 }
+{
+    let numbers = read_view(alloc, shown(&op.first), store)?;
+    match op.slot {
+        Some(slot) => fill_slot(slot, numbers.as_slice(), slots),
+        None => unreachable!(),
+    }
+    Ok(())
+}
+
+/// Computes the results of an operation and writes them.
+fn compute(alloc: Global, op: &Op, store: &mut Store) -> Result<(), NoMemory>
+    requires well { well_formed op.now ≡ true }
+    requires code { keeps_bases (kind op.now.code) ≡ false }
+    requires fits { op_fits (bare (memory store.old [])) (op.now ∷ []) op.now ≡ true }
+    requires room { store.old.loads + 16777216 ≤ 2 ^ 62 }
+    requires room_stores { store.old.stores + 8388608 ≤ 2 ^ 62 }
+    requires room_made { store.old.made < 2 ^ 62 }
+    ensures bases { OnOk result (cells store.new ≡ (step (memory store.old []) op.now).bases) }
+    ensures loads { store.old.loads ≤ store.new.loads }
+    ensures few_loads { store.new.loads ≤ store.old.loads + 16777216 }
+    ensures stores { store.old.stores ≤ store.new.stores }
+    ensures few_stores { store.new.stores ≤ store.old.stores + 8388608 }
+    ensures made { store.old.made ≤ store.new.made }
+    ensures few_made { store.new.made ≤ store.old.made + 1 }
+{
+    match &op.out {
+        Some(out) => {
+            let numbers = computed(alloc, op, out, store)?;
+            put_out(alloc, op, out, numbers.as_slice(), store)
+        }
+        None => unreachable!(),
+    }
+}
+
+/// Runs one operation on the store and the slots: it reads its inputs whole, and then writes.
+pub(crate) fn perform(
+    alloc: Global,
+    op: &Op,
+    store: &mut Store,
+    slots: &mut Slots,
+) -> Result<(), NoMemory>
+    requires well { well_formed op.now ≡ true }
+    requires runs { can_run (memory store.old slots.old) op.now ≡ true }
+    requires room { store.old.loads + 16777216 ≤ 2 ^ 62 }
+    requires room_stores { store.old.stores + 8388608 ≤ 2 ^ 62 }
+    requires room_made { store.old.made < 2 ^ 62 }
+    ensures memory { OnOk result (memory store.new slots.new ≡ step (memory store.old slots.old) op.now) }
+    ensures loads { store.old.loads ≤ store.new.loads }
+    ensures few_loads { store.new.loads ≤ store.old.loads + 16777216 }
+    ensures stores { store.old.stores ≤ store.new.stores }
+    ensures few_stores { store.new.stores ≤ store.old.stores + 8388608 }
+    ensures made { store.old.made ≤ store.new.made }
+    ensures few_made { store.new.made ≤ store.old.made + 1 }
+{
+    match op.code {
+        Code::Free => {
+            release(op, store);
+            Ok(())
+        }
+        Code::Sync => show(alloc, op, store, slots),
+        _ => compute(alloc, op, store),
+    }
+}
+
+/// Runs operations one after another on the store and the slots.
+pub fn perform_all(
+    alloc: Global,
+    ops: &[Op],
+    store: &mut Store,
+    slots: &mut Slots,
+) -> Result<(), NoMemory>
+    requires well { list_all well_formed ops.now ≡ true }
+    requires runs { can_run_all (memory store.old slots.old) ops.now ≡ true }
+    requires room { store.old.loads + 16777216 * length ops.now ≤ 2 ^ 62 }
+    requires room_stores { store.old.stores + 8388608 * length ops.now ≤ 2 ^ 62 }
+    requires room_made { store.old.made + length ops.now ≤ 2 ^ 62 }
+    ensures memory { OnOk result (memory store.new slots.new ≡ eager (memory store.old slots.old) ops.now) }
+    ensures loads { store.old.loads ≤ store.new.loads }
+    ensures few_loads { store.new.loads ≤ store.old.loads + 16777216 * length ops.now }
+    ensures stores { store.old.stores ≤ store.new.stores }
+    ensures few_stores { store.new.stores ≤ store.old.stores + 8388608 * length ops.now }
+    ensures made { store.old.made ≤ store.new.made }
+    ensures few_made { store.new.made ≤ store.old.made + length ops.now }
+{
+    for op in ops {
+        perform(alloc, op, store, slots)?;
+    }
+    Ok(())
+}

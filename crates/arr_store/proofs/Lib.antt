@@ -1,0 +1,5 @@
+pub mod Numbers
+pub mod Tables
+pub mod Lawful
+pub mod Updates
+pub mod Pages

@@ -1,0 +1,22 @@
+//! The memory that operations run on: buffers by base, print slots, and counters.
+//!
+//! A [`Store`] holds the numbers of each base, in the bytes of their type, and counts the bytes that are loaded and stored and the
+//! buffers that are made. [`Slots`] holds what the SYNCs of one list show.
+//!
+//! The promise: a store is a finite map from base to type and list of numbers. `load` gives the number that is kept, `store`
+//! changes that one number, `make` adds a base of zeros and `drop_base` takes one away; each raises its own counter and no other,
+//! and none falls. Every number is of its base's type. A refused `make` changes nothing, and only what makes a store, a base or
+//! slots takes memory. `load` and `store` take constant time: an index leads from the base to its buffer.
+//!
+//! The definitions: `specs/Stored.antt` has what a contract sees of a store, and its bases as a function from numbers to cells
+//! (`cells`), as `Memory` of arr_ops has them; `specs/Slots.antt` has the slots as such a function (`slots_of`) and the slots of a
+//! list (`blank_slots`); `specs/Cells.antt` what calls read of one cell, and `assigned`, a function changed at one number. How
+//! fields show these (`Buffers`, `Tables`, `Pages`) no clause names.
+#![tactic(auto)]
+
+mod buffer;
+mod slots;
+mod store;
+
+pub use slots::Slots;
+pub use store::Store;
