@@ -84,7 +84,8 @@ impl Owners {
         };
         let count = self.counts[base as usize];
         self.counts[base as usize] = count - 1;
-        if count == 1 {
+        let last = count == 1;
+        if last {
             self.loose.insert(base)?;
         }
         Ok(())

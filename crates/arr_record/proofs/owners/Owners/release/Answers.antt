@@ -57,14 +57,14 @@ returns-in_ok-insert-clause-owned c =
     let below : c.in-Some.base < length c.self.inside.counts.items = named_below before c.args.name c.in-Some.base names live known (sym c.in-Some.ensures.value) in
     let count : c.index-count.result.now ≡ slice_index c.self.inside.counts.items c.in-Some.base =
     c.index-count.ensures ∙ get_or_default_zero c.self.inside.counts.items c.in-Some.base c.index-count.result.now below in
-    let test : (slice_index c.self.inside.counts.items c.in-Some.base == 1) ≡ true = ap (λ n. n == 1) (sym count) ∙ eq-eqb c.index-count.result.now 1 c.if-count-eq1.true in
+    let test : (slice_index c.self.inside.counts.items c.in-Some.base == 1) ≡ true = ap (λ n. n == 1) (sym count) ∙ eq-eqb c.index-count.result.now 1 c.if-last.true in
     owned_released before after c.args.name c.in-Some.base names live (sym c.in-Some.ensures.value)
     (updated c.self.inside.names.entries c.remove.new.self.entries c.args.name None c.remove.ensures.updates.0) refl
     (ap (λ n. set c.self.inside.counts.items c.in-Some.base (n - 1)) count)
     (c.in_ok-insert.ensures.keys ∙ ap (λ t. cond t (insert_key nat_cmp c.self.inside.loose.keys c.in-Some.base) c.self.inside.loose.keys) (sym test)) known
 
-pub returns-else-count-eq1-clause-owned : goal.returns-else-count-eq1-clause-owned
-returns-else-count-eq1-clause-owned c =
+pub returns-else-last-clause-owned : goal.returns-else-last-clause-owned
+returns-else-last-clause-owned c =
     λ names live owned.
     let before : Ledger = record { names = c.self.inside.names.entries; elems = c.self.inside.elems.items; counts = c.self.inside.counts.items; loose = c.self.inside.loose.keys } in
     let after : Ledger = record { names = c.remove.new.self.entries; elems = c.self.inside.elems.items; counts = set c.self.inside.counts.items c.in-Some.base (c.index-count.result.now - 1); loose = c.self.inside.loose.keys } in
@@ -72,7 +72,7 @@ returns-else-count-eq1-clause-owned c =
     let below : c.in-Some.base < length c.self.inside.counts.items = named_below before c.args.name c.in-Some.base names live known (sym c.in-Some.ensures.value) in
     let count : c.index-count.result.now ≡ slice_index c.self.inside.counts.items c.in-Some.base =
     c.index-count.ensures ∙ get_or_default_zero c.self.inside.counts.items c.in-Some.base c.index-count.result.now below in
-    let test : (slice_index c.self.inside.counts.items c.in-Some.base == 1) ≡ false = ap (λ n. n == 1) (sym count) ∙ ne_eqb c.index-count.result.now 1 c.if-count-eq1.false in
+    let test : (slice_index c.self.inside.counts.items c.in-Some.base == 1) ≡ false = ap (λ n. n == 1) (sym count) ∙ ne_eqb c.index-count.result.now 1 c.if-last.false in
     owned_released before after c.args.name c.in-Some.base names live (sym c.in-Some.ensures.value)
     (updated c.self.inside.names.entries c.remove.new.self.entries c.args.name None c.remove.ensures.updates.0) refl
     (ap (λ n. set c.self.inside.counts.items c.in-Some.base (n - 1)) count)
