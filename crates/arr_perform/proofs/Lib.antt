@@ -7,3 +7,5 @@ pub mod Results
 pub mod Outputs
 pub mod Steps
 pub mod Performing
+pub mod Alone
+pub mod Ready

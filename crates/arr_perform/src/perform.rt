@@ -5,11 +5,11 @@ ghost use Rattle.arr_view.specs.Views.{elements, positions};
 ghost use Rattle.arr_num.specs.Kinds.{Ending, Printing, is_element_wise, is_fold, kind};
 ghost use Rattle.arr_num.specs.Numbers.{in_type};
 ghost use Rattle.arr_ops.specs.Ops.{keeps_bases, view_of};
-ghost use Rattle.arr_ops.specs.Formed.{is_array, well_formed};
+ghost use Rattle.arr_ops.specs.Formed.{is_array, is_formed, well_formed};
 ghost use Rattle.arr_ops.specs.Memory.{computed, eager, first_numbers, operand, put, results, step};
-ghost use Rattle.arr_ops.specs.Fits.{op_fits};
+ghost use Rattle.arr_ops.specs.Fits.{fits, op_fits};
 ghost use Rattle.arr_store.specs.Cells.{assigned};
-ghost use Rattle.arr_store.specs.Slots.{slots_of};
+ghost use Rattle.arr_store.specs.Slots.{blank_slots, slots_of};
 ghost use Rattle.arr_store.specs.Stored.{cells};
 ghost use Rattle.arr_perform.specs.Performed.{bare, can_run, can_run_all, lie_inside, memory};
 
@@ -357,8 +357,8 @@ pub(crate) fn perform(
     }
 }
 
-/// Runs operations one after another on the store and the slots.
-pub fn perform_all(
+/// Runs operations one after another, each of which finds what it needs.
+fn perform_each(
     alloc: Global,
     ops: &[Op],
     store: &mut Store,
@@ -381,4 +381,34 @@ pub fn perform_all(
         perform(alloc, op, store, slots)?;
     }
     Ok(())
+}
+
+/// Runs the operations of a list one after another: each reads its inputs whole, and then writes (docs/PLANS.md, "The store").
+///
+/// It is given a formed list of at most 256 operations, a store that has what they need, and slots made for the list. Afterwards the bases
+/// and the slots are those that the list leaves, and each counter has risen by at most 2^32. After [`NoMemory`], which comes where memory
+/// is out, nothing is claimed of the store's bases and of the slots.
+pub fn perform_all(
+    alloc: Global,
+    ops: &[Op],
+    store: &mut Store,
+    slots: &mut Slots,
+) -> Result<(), NoMemory>
+    requires formed { is_formed ops.now ≡ true }
+    requires fitting { fits (bare (memory store.old slots.old)) ops.now ≡ true }
+    requires blank { slots_of slots.old ≡ blank_slots ops.now }
+    requires few { length ops.now ≤ 256 }
+    requires room_loads { store.old.loads < 2 ^ 61 }
+    requires room_stores { store.old.stores < 2 ^ 61 }
+    requires room_made { store.old.made < 2 ^ 61 }
+    ensures bases { OnOk result (cells store.new ≡ (eager (bare (memory store.old slots.old)) ops.now).bases) }
+    ensures shown { OnOk result (slots_of slots.new ≡ (eager (bare (memory store.old slots.old)) ops.now).slots) }
+    ensures loads { OnOk result (store.new.loads ≤ store.old.loads + 2 ^ 32) }
+    ensures stores { OnOk result (store.new.stores ≤ store.old.stores + 2 ^ 32) }
+    ensures made { OnOk result (store.new.made ≤ store.old.made + 2 ^ 32) }
+    ensures kept_loads { store.old.loads ≤ store.new.loads }
+    ensures kept_stores { store.old.stores ≤ store.new.stores }
+    ensures kept_made { store.old.made ≤ store.new.made }
+{
+    perform_each(alloc, ops, store, slots)
 }
