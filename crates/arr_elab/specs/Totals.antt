@@ -1,5 +1,5 @@
 -- The totals that are kept while a script is read: how many names stand for each base, and the live elements.
-use Rattle.std.specs.Prelude.{ℕ, suc, ◌+◌, List, [], ◌∷◌, Bool, ◌||◌, nat_lt, nat_le, cond, map}
+use Rattle.std.specs.Prelude.{ℕ, suc, ◌+◌, ◌-◌, List, [], ◌∷◌, Bool, ◌||◌, ◌&&◌, nat_lt, nat_le, cond, map, get_or, slice_set}
 use Rattle.arr_elab.specs.declared.bases.Base.{Base}
 use Rattle.arr_elab.specs.State.{Names, has_base}
 
@@ -27,7 +27,24 @@ abbrev pub names_of : Names → ℕ → ℕ
 names_of [] b = 0
 names_of (entry ∷ entries) b = cond (has_base b entry.1) 1 0 + names_of entries b
 
--- the bases from b on, of these lengths
-abbrev pub tally : Names → ℕ → List ℕ → List Base
+-- the bases from b on, of these lengths, where so many names stand for each
+abbrev pub tally : (ℕ → ℕ) → ℕ → List ℕ → List Base
 tally names b [] = []
-tally names b (n ∷ ns) = record { length = n; names = names_of names b } ∷ tally names (suc b) ns
+tally names b (n ∷ ns) = record { length = n; names = names b } ∷ tally names (suc b) ns
+
+abbrev pub base_at : Held → ℕ → Base
+base_at held b = get_or held.list b no_base
+
+-- the counts have room for one more name
+abbrev pub may_hold : Held → ℕ → Bool
+may_hold held b = nat_lt (base_at held b).names 4294967295 && nat_lt (live_by held.first 0 held.list + (base_at held b).length) 18446744073709551616
+
+-- another base in the place of one
+abbrev pub with_base : Held → ℕ → Base → Held
+with_base held b base = record { list = slice_set held.list b base; first = held.first }
+
+abbrev pub hold : Held → ℕ → Held
+hold held b = with_base held b (record { length = (base_at held b).length; names = (base_at held b).names + 1 })
+
+abbrev pub release : Held → ℕ → Held
+release held b = with_base held b (record { length = (base_at held b).length; names = (base_at held b).names - 1 })

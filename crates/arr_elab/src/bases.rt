@@ -1,8 +1,8 @@
 //! The bases of a script so far, with how many names stand for each, and the live elements.
 
-ghost use Rattle.std.specs.Prelude.{◌≡◌, ◌<◌, ◌≤◌, ◌+◌, ◌-◌, [], ◌∷◌, ◌++◌, OnOk, get_or, length, not, nat_lt, slice_set};
+ghost use Rattle.std.specs.Prelude.{◌≡◌, ◌<◌, ◌≤◌, ◌+◌, ◌-◌, [], ◌∷◌, ◌++◌, OnOk, get_or, length, not, nat_lt, slice_set, IsTrue};
 ghost use Rattle.arr_elab.specs.State.{most_live};
-ghost use Rattle.arr_elab.specs.Totals.{lengths, live_by, no_base, weight};
+ghost use Rattle.arr_elab.specs.Totals.{base_at, hold, lengths, live_by, may_hold, no_base, release, weight, with_base};
 
 use arr_overlap::NoMemory;
 use std::alloc::Global;
@@ -98,36 +98,46 @@ impl Bases {
     }
 
     /// Puts another base in the place of one.
-    fn replace(&mut self, at: usize, base: Base) -> Result<(), NoMemory>
-        requires { at < length self.old.list }
-        ensures { OnOk result (self.new ≡ record { list = slice_set self.old.list at base; first = self.old.first }) }
+    fn replace(&mut self, at: usize, base: Base)
+        requires at { at < length self.old.list }
+        requires room { live_by self.old.first 0 (slice_set self.old.list at base) < 18446744073709551616 }
+        ensures { self.new ≡ with_base self.old at base }
     {
         let rest = self.live - u64::from(weight(self.first, at, self.list[at]));
-        let Some(live) = rest.checked_add(u64::from(weight(self.first, at, base))) else {
-            return Err(NoMemory);
-        };
+        self.live = rest + u64::from(weight(self.first, at, base));
         self.list[at] = base;
-        self.live = live;
-        Ok(())
+    }
+
+    /// Whether the counts have room for one more name of a base.
+    pub(crate) fn may_hold(&self, base: u32) -> bool
+        requires { base < length self.now.list }
+        ensures { result ≡ may_hold self.now base }
+    {
+        let Base { length, names } = self.list[base as usize];
+        names < u32::MAX && self.live.checked_add(u64::from(length)).is_some()
     }
 
     /// One more name stands for a base.
-    pub(crate) fn hold(&mut self, base: u32) -> Result<(), NoMemory>
-        requires { base < length self.old.list }
-        ensures { OnOk result (let old = get_or self.old.list base no_base in self.new ≡ record { list = slice_set self.old.list base (record { length = old.length; names = old.names + 1 }); first = self.old.first }) }
+    pub(crate) fn hold(&mut self, base: u32)
+        requires base { base < length self.old.list }
+        requires room { IsTrue (may_hold self.old base) }
+        ensures { self.new ≡ hold self.old base }
     {
         let Base { length, names } = self.list[base as usize];
-        let Some(names) = names.checked_add(1) else {
-            return Err(NoMemory);
-        };
-        self.replace(base as usize, Base { length, names })
+        self.replace(
+            base as usize,
+            Base {
+                length,
+                names: names + 1,
+            },
+        );
     }
 
     /// One name less stands for a base.
-    pub(crate) fn release(&mut self, base: u32) -> Result<(), NoMemory>
+    pub(crate) fn release(&mut self, base: u32)
         requires base { base < length self.old.list }
-        requires held { 0 < (get_or self.old.list base no_base).names }
-        ensures { OnOk result (let old = get_or self.old.list base no_base in self.new ≡ record { list = slice_set self.old.list base (record { length = old.length; names = old.names - 1 }); first = self.old.first }) }
+        requires held { 0 < (base_at self.old base).names }
+        ensures { self.new ≡ release self.old base }
     {
         let Base { length, names } = self.list[base as usize];
         self.replace(
@@ -136,7 +146,7 @@ impl Bases {
                 length,
                 names: names - 1,
             },
-        )
+        );
     }
 
     /// The first base of the statement is of an earlier one from here on.

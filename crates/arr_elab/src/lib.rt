@@ -3,6 +3,7 @@
 
 mod bases;
 mod fault;
+mod names;
 mod step;
 mod value;
 
