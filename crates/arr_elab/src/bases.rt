@@ -2,7 +2,7 @@
 
 ghost use Rattle.std.specs.Prelude.{◌≡◌, ◌<◌, ◌≤◌, ◌+◌, ◌-◌, [], ◌∷◌, ◌++◌, OnOk, get_or, length, not, nat_lt, slice_set, IsTrue};
 ghost use Rattle.arr_elab.specs.State.{most_live};
-ghost use Rattle.arr_elab.specs.Totals.{base_at, hold, lengths, live_by, may_hold, no_base, release, weight, with_base};
+ghost use Rattle.arr_elab.specs.Totals.{hold, hold_if, lengths, live_by, may_hold, may_hold_if, may_release, may_release_if, release, release_if, weight, with_base};
 
 use arr_overlap::NoMemory;
 use std::alloc::Global;
@@ -108,19 +108,21 @@ impl Bases {
         self.list[at] = base;
     }
 
-    /// Whether the counts have room for one more name of a base.
-    pub(crate) fn may_hold(&self, base: u32) -> bool
-        requires { base < length self.now.list }
+    /// Whether a base is there, and the counts have room for one more name of it.
+    fn has_room_for(&self, base: u32) -> bool
         ensures { result ≡ may_hold self.now base }
     {
-        let Base { length, names } = self.list[base as usize];
-        names < u32::MAX && self.live.checked_add(u64::from(length)).is_some()
+        let live = self.live;
+        match self.list.get(base as usize) {
+            Some(base) => base.names < u32::MAX
+                && live.checked_add(u64::from(base.length)).is_some(),
+            None => false,
+        }
     }
 
     /// One more name stands for a base.
-    pub(crate) fn hold(&mut self, base: u32)
-        requires base { base < length self.old.list }
-        requires room { IsTrue (may_hold self.old base) }
+    fn hold_one(&mut self, base: u32)
+        requires { IsTrue (may_hold self.old base) }
         ensures { self.new ≡ hold self.old base }
     {
         let Base { length, names } = self.list[base as usize];
@@ -134,9 +136,8 @@ impl Bases {
     }
 
     /// One name less stands for a base.
-    pub(crate) fn release(&mut self, base: u32)
-        requires base { base < length self.old.list }
-        requires held { 0 < (base_at self.old base).names }
+    fn release_one(&mut self, base: u32)
+        requires { IsTrue (may_release self.old base) }
         ensures { self.new ≡ release self.old base }
     {
         let Base { length, names } = self.list[base as usize];
@@ -147,6 +148,36 @@ impl Bases {
                 names: names - 1,
             },
         );
+    }
+
+    /// Whether one more name may stand for a base, if one is given.
+    pub(crate) fn may_hold(&self, base: Option<u32>) -> bool
+        ensures { result ≡ may_hold_if self.now base }
+    {
+        match base {
+            Some(base) => self.has_room_for(base),
+            None => true,
+        }
+    }
+
+    /// One more name stands for a base, if one is given.
+    pub(crate) fn hold(&mut self, base: Option<u32>)
+        requires { IsTrue (may_hold_if self.old base) }
+        ensures { self.new ≡ hold_if self.old base }
+    {
+        if let Some(base) = base {
+            self.hold_one(base);
+        }
+    }
+
+    /// One name less stands for a base, if one is given.
+    pub(crate) fn release(&mut self, base: Option<u32>)
+        requires { IsTrue (may_release_if self.old base) }
+        ensures { self.new ≡ release_if self.old base }
+    {
+        if let Some(base) = base {
+            self.release_one(base);
+        }
     }
 
     /// The first base of the statement is of an earlier one from here on.
