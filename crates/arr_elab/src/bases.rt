@@ -1,6 +1,6 @@
 //! The bases of a script so far, with how many names stand for each, and the live elements.
 
-ghost use Rattle.std.specs.Prelude.{◌≡◌, ◌<◌, ◌≤◌, ◌+◌, ◌-◌, [], ◌∷◌, ◌++◌, OnOk, get_or, length, not, nat_lt, slice_set, IsTrue};
+ghost use Rattle.std.specs.Prelude.{◌≡◌, ◌<◌, ◌≤◌, ◌+◌, ◌-◌, [], ◌∷◌, ◌++◌, OnErr, OnOk, get_or, length, not, nat_lt, slice_set, IsTrue};
 ghost use Rattle.arr_elab.specs.State.{most_live};
 ghost use Rattle.arr_elab.specs.Totals.{hold, hold_if, lengths, live_by, may_hold, may_hold_if, may_release, may_release_if, release, release_if, weight, with_base};
 
@@ -86,7 +86,8 @@ impl Bases {
     /// Makes a base of so many elements, for which no name stands.
     pub(crate) fn make(&mut self, count: u32) -> Result<(), NoMemory>
         requires { live_by self.old.first 0 self.old.list + count ≤ most_live }
-        ensures { OnOk result (self.new ≡ record { list = self.old.list ++ (record { length = count; names = 0 }) ∷ []; first = self.old.first }) }
+        ensures made { OnOk result (self.new ≡ record { list = self.old.list ++ (record { length = count; names = 0 }) ∷ []; first = self.old.first }) }
+        ensures unchanged { OnErr result (self.new ≡ self.old) }
     {
         let _live = self.live;
         self.list.push(Base {

@@ -4,6 +4,7 @@
 mod bases;
 mod fault;
 mod names;
+mod reader;
 mod step;
 mod value;
 
