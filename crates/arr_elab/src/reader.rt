@@ -1,10 +1,11 @@
 //! What is known while a script is read, and the steps so far.
 
-ghost use Rattle.std.specs.Prelude.{◌≡◌, get_or, option_copied};
+ghost use Rattle.std.specs.Prelude.{◌≡◌, ◌||◌, get_or, is_some, nat_lt, IfOk};
 ghost use Rattle.arr_elab.specs.Contract.{Reads};
 ghost use Rattle.arr_elab.specs.State as spec;
-ghost use Rattle.arr_elab.specs.State.{nothing_yet};
-ghost use Rattle.arr_elab.specs.Outcome.{set_name};
+ghost use Rattle.arr_elab.specs.State.{most_names, nothing_yet, number_of, stands_for};
+ghost use Rattle.arr_elab.specs.Expressions.{lookup};
+ghost use Rattle.arr_elab.specs.Outcome.{bind, bound, forget, set_name};
 ghost use Rattle.arr_elab.specs.Outcome as outcome;
 ghost use Rattle.arr_elab.specs.Totals.{base_of};
 
@@ -14,7 +15,8 @@ use crate::names::Names;
 use crate::step::Step;
 use crate::value::Array;
 use arr_ops::Op;
-use arr_syntax::{Kind, Place};
+use arr_overlap::NoMemory;
+use arr_syntax::{Kind, Place, Word};
 use arr_view::View;
 use std::alloc::Global;
 use std::marker::Model;
@@ -37,6 +39,9 @@ impl Model for Reader {
 
     ghost invariant = { λ r. IsKept r.names r.bases };
 }
+
+/// At most so many names are bound at once.
+const MOST_NAMES: u64 = 1024;
 
 /// The base of an array, if there is one.
 fn base_of(array: &Option<Array>) -> Option<u32>
@@ -130,5 +135,62 @@ impl Reader {
         self.bases.hold(new);
         self.bases.release(old);
         Ok(())
+    }
+
+    /// The array that a name stands for. `UnknownName` exactly where it stands for none.
+    pub(crate) fn lookup(&self, word: &Word) -> Result<Array, ElabFault>
+        ensures { Reads (lookup word.now self.now) result self.now }
+    {
+        match self.names.get(word.text.as_slice()) {
+            Some(array) => Ok(array.copied()),
+            None => Err(ElabFault::at(word.at, Kind::UnknownName)),
+        }
+    }
+
+    /// How many elements a base has; 0 where there is no such base.
+    pub(crate) fn length(&self, base: u32) -> u32
+        ensures { result ≡ get_or self.now.bases base 0 }
+    {
+        self.bases.length(base)
+    }
+
+    /// The number of a name, or of the next one.
+    fn number(&self, name: &[u8]) -> Result<u32, NoMemory>
+        ensures { IfOk result (λ number. number ≡ number_of self.now.names name.now) }
+    {
+        match u32::try_from(self.names.number(name)) {
+            Ok(number) => Ok(number),
+            Err(_) => Err(NoMemory),
+        }
+    }
+
+    /// Whether a name may be bound: it is bound already, or fewer than 1,024 are.
+    fn may_bind(&self, name: &[u8]) -> bool
+        ensures { result ≡ (is_some (stands_for self.now.names name.now) || nat_lt (bound self.now.names) most_names) }
+    {
+        self.names.get(name).is_some() || self.names.bound() < MOST_NAMES
+    }
+
+    /// A name stands for an array from here on. `TooManyNames` exactly where it is new and 1,024 names are bound.
+    pub(crate) fn bind(&mut self, alloc: Global, word: &Word, array: Array) -> Result<(), ElabFault>
+        ensures { Reads (bind word.now array self.old) result self.new }
+    {
+        let number = self.number(word.text.as_slice())?;
+        if !self.may_bind(word.text.as_slice()) {
+            return Err(ElabFault::at(word.at, Kind::TooManyNames));
+        }
+        let base = array.view.base();
+        self.set_name(alloc, word.text.as_slice(), Some(array))?;
+        self.step(Step::Name { name: number, base })
+    }
+
+    /// A name stands for nothing from here on. `UnknownName` exactly where it stands for nothing already.
+    pub(crate) fn forget(&mut self, alloc: Global, word: &Word) -> Result<(), ElabFault>
+        ensures { Reads (forget word.now self.old) result self.new }
+    {
+        let number = self.number(word.text.as_slice())?;
+        self.lookup(word)?;
+        self.set_name(alloc, word.text.as_slice(), None)?;
+        self.step(Step::Forget { name: number })
     }
 }
