@@ -2,8 +2,11 @@
 #![tactic(auto)]
 
 mod bases;
+mod codes;
 mod fault;
+mod joined;
 mod names;
+mod operation;
 mod reader;
 mod step;
 mod value;
