@@ -6,3 +6,4 @@ pub mod Outcome
 pub mod Recording
 pub mod Contract
 pub mod Totals
+pub mod Parts

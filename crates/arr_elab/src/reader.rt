@@ -193,4 +193,11 @@ impl Reader {
         self.set_name(alloc, word.text.as_slice(), None)?;
         self.step(Step::Forget { name: number })
     }
+
+    /// The steps of the whole script.
+    pub(crate) fn into_steps(self) -> Vec<Step>
+        ensures { result.items ≡ self.steps }
+    {
+        self.steps
+    }
 }

@@ -1,7 +1,7 @@
 use Rattle.std.proofs.Common.{◌≡◌, ◌∙◌, ap, sym, subst, true}
 use Rattle.std.specs.Prelude.{IsTrue, Ok}
 use Rattle.arr_shape.specs.Shapes.{broadcast, is_shape}
-use Rattle.arr_elab.proofs.Forms.{arrays_joined}
+use Rattle.arr_elab.proofs.Given.{arrays_joined}
 use Rattle.arr_elab.proofs.Shaped.{view_shaped, broadcast_shaped}
 use Rattle.arr_elab.proofs.joined.arrays.Goals as goal
 
