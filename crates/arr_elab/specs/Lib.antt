@@ -7,3 +7,4 @@ pub mod Recording
 pub mod Contract
 pub mod Totals
 pub mod Parts
+pub mod Examples

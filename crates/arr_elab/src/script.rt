@@ -1,8 +1,9 @@
 //! The statements of a script, one after another.
 
-ghost use Rattle.std.specs.Prelude.{◌≡◌};
-ghost use Rattle.std.specs.Result.{result_map_both};
-ghost use Rattle.arr_elab.specs.Contract.{Gives, Reads};
+ghost use Rattle.std.specs.Prelude.{◌≡◌, IfErr, IfOk, Err, Ok};
+ghost use Rattle.arr_syntax.specs.declared.refusal.Refusal.{Refusal};
+ghost use Rattle.arr_elab.specs.declared.fault.ElabFault.TheVariants.{Refused};
+ghost use Rattle.arr_elab.specs.Contract.{Reads};
 ghost use Rattle.arr_elab.specs.Outcome as spec;
 ghost use Rattle.arr_syntax.specs.declared.tree.Form.TheVariants as form;
 
@@ -48,7 +49,11 @@ fn effect(alloc: Global, reader: &mut Reader, form: &Form) -> Result<(), ElabFau
             let array = array(alloc, reader, value)?;
             reader.bind(alloc, name, array)
         }
-        Form::Assign { target, equals, value } => assign(alloc, reader, target, *equals, value),
+        Form::Assign {
+            target,
+            equals,
+            value,
+        } => assign(alloc, reader, target, *equals, value),
     }
 }
 
@@ -60,11 +65,7 @@ fn statement(alloc: Global, reader: &mut Reader, statement: &Statement) -> Resul
     reader.step(Step::Done)
 }
 
-fn statements(
-    alloc: Global,
-    reader: &mut Reader,
-    mut rest: &[Statement],
-) -> Result<(), ElabFault>
+fn statements(alloc: Global, reader: &mut Reader, mut rest: &[Statement]) -> Result<(), ElabFault>
     ensures { Reads (spec.statements rest.entry.now reader.old) result reader.new }
 {
     while let [first, others @ ..] = rest {
@@ -74,10 +75,13 @@ fn statements(
     Ok(())
 }
 
-/// The steps of a script, in the order in which it is read (docs/LANGUAGE.md, "Steps"), or its first refusal: the place and the kind
-/// (docs/LANGUAGE.md, "Refusals"). Want of memory is the only other answer.
+/// The steps of an accepted script, in the order in which its statements are read: the operations, with the arguments of each before
+/// it and from left to right, and what its names stand for (docs/LANGUAGE.md, "Steps"). Else the first refusal, with the place of the
+/// token: an unknown name, a wrong type, a literal outside its type, a shape or view that its rule refuses, too many live elements, a
+/// target that has an element twice, or too many names (docs/LANGUAGE.md, "Refusals"). Want of memory is the only other answer.
 pub fn elaborate(alloc: Global, script: &Script) -> Result<Vec<Step>, ElabFault>
-    ensures { Gives (spec.outcome script.now.statements) (result_map_both (λ steps. steps.items) (λ e. e) result) }
+    ensures steps { IfOk result (λ steps. spec.outcome script.now.statements ≡ Ok steps.items) }
+    ensures refused { IfErr result (λ fault. (r : Refusal) → fault ≡ Refused r → spec.outcome script.now.statements ≡ Err r) }
 {
     let mut reader = Reader::new(alloc);
     statements(alloc, &mut reader, script.statements.as_slice())?;

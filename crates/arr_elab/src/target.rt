@@ -42,7 +42,14 @@ fn copied(
     if repeats(alloc, &target.view)? {
         return Err(ElabFault::at(equals, Kind::OutputRepeats));
     }
-    let op = operation(Code::Identity, target.elem, source.elem, taken(view), None, None);
+    let op = operation(
+        Code::Identity,
+        target.elem,
+        source.elem,
+        taken(view),
+        None,
+        None,
+    );
     reader.act(onto(op, target.view, false))
 }
 
@@ -136,12 +143,7 @@ pub(crate) fn stored(
 {
     match prepared {
         Prepared::Ready(Value::Literal { at, number }) => stored_literal(
-            alloc,
-            reader,
-            target,
-            equals,
-            at,
-            number,
+            alloc, reader, target, equals, at, number,
         ),
         Prepared::Ready(Value::Array(source)) => assigned(alloc, reader, target, equals, source),
         Prepared::Open(pending) => stored_operation(alloc, reader, target, equals, pending),
