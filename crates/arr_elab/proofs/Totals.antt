@@ -1,7 +1,9 @@
 -- How the live elements change with the bases.
 use Rattle.std.proofs.Common.{◌≡◌, refl, sym, ◌∙◌, ap, subst, ℕ, zero, suc, ◌+◌, ◌<◌, ◌≤◌, List, [], ◌∷◌, ◌++◌, Bool, true, false, ◌||◌, cond, nat_lt, nat_le, length, get_or, set, arith}
 use Rattle.arr_elab.specs.declared.bases.Base.{Base}
-use Rattle.arr_elab.specs.Totals.{live_by, weight}
+use Rattle.std.specs.Prelude.{IsTrue}
+use Rattle.std.proofs.lemmas.List.{get_or_read}
+use Rattle.arr_elab.specs.Totals.{Held, live_by, weight, may_hold, base_at, no_base}
 
 -- a base at or past the first counts whole
 pub weight_new : (f k : ℕ) (x : Base) → f ≤ k → weight f k x ≡ x.length
@@ -64,3 +66,26 @@ aged f xs x p e =
     subst (λ (z : Base). live_by f 0 xs + weight (suc f) f z ≡ live_by (suc f) 0 xs + z.length) (sym e) (live_age f 0 f xs x p (omega arith)) in
     let one : suc f ≡ f + 1 = omega arith in
     subst (λ g. live_by f 0 xs + weight g f x ≡ live_by g 0 xs + x.length) one at_suc
+
+-- more names add at most the elements of the base
+pub held : (f i : ℕ) (xs : List Base) (x : Base) (names : ℕ) → i < length xs → x ≡ get_or xs i x → live_by f 0 (set xs i (record { length = x.length; names = names })) ≤ live_by f 0 xs + x.length
+held f i xs x names p e =
+    let y : Base = record { length = x.length; names = names } in
+    omega (arith, replaced f i xs y x p e, weight_le f i y)
+
+pub hold_room : (h : Held) (b : ℕ) (x : Base) → b < length h.list → x ≡ get_or h.list b x → IsTrue (may_hold h b) → live_by h.first 0 (set h.list b (record { length = x.length; names = x.names + 1 })) < 18446744073709551616
+hold_room h b x p e room =
+    let at : x ≡ get_or h.list b no_base = get_or_read h.list b x p e no_base in
+    let most = held h.first b h.list x (x.names + 1) p e in
+    let long : x.length ≡ (base_at h b).length = ap (λ (y : Base). y.length) at in
+    let test : nat_lt (live_by h.first 0 h.list + (base_at h b).length) 18446744073709551616 ≡ true = grind (arith, room) in
+    grind arith
+
+-- fewer names add nothing
+weight_less : (f i m n k : ℕ) → k ≤ m → weight f i (record { length = n; names = k }) ≤ weight f i (record { length = n; names = m })
+weight_less f i m n k p = grind arith
+
+pub released : (f i : ℕ) (xs : List Base) (x : Base) (names : ℕ) → names ≤ x.names → i < length xs → x ≡ get_or xs i x → live_by f 0 (set xs i (record { length = x.length; names = names })) ≤ live_by f 0 xs
+released f i xs x names q p e =
+    let y : Base = record { length = x.length; names = names } in
+    omega (arith, replaced f i xs y x p e, weight_less f i x.names x.length names q)

@@ -5,10 +5,6 @@ use Rattle.arr_elab.specs.declared.fault.ElabFault.{ElabFault}
 use Rattle.arr_elab.specs.declared.fault.ElabFault.TheVariants.{Refused}
 use Rattle.arr_elab.specs.State.{State, Checked}
 
-abbrev pub Gives : {A : Type 0} → Checked A → Result A ElabFault → Type 0
-Gives outcome (Ok a) = outcome ≡ Ok a
-Gives outcome (Err e) = (r : Refusal) → e ≡ Refused r → outcome ≡ Err r
-
 -- the result, and the state after it
 abbrev pub Reads : {A : Type 0} → Checked (A × State) → Result A ElabFault → State → Type 0
 Reads outcome (Ok a) new = outcome ≡ Ok (a, new)

@@ -6,3 +6,5 @@ pub mod Outcome
 pub mod Recording
 pub mod Contract
 pub mod Totals
+pub mod Parts
+pub mod Examples

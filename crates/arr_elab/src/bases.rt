@@ -1,8 +1,8 @@
 //! The bases of a script so far, with how many names stand for each, and the live elements.
 
-ghost use Rattle.std.specs.Prelude.{◌≡◌, ◌<◌, ◌≤◌, ◌+◌, ◌-◌, [], ◌∷◌, ◌++◌, OnOk, get_or, length, not, nat_lt, slice_set};
+ghost use Rattle.std.specs.Prelude.{◌≡◌, ◌<◌, ◌≤◌, ◌+◌, ◌-◌, [], ◌∷◌, ◌++◌, OnErr, OnOk, get_or, length, not, nat_lt, slice_set, IsTrue};
 ghost use Rattle.arr_elab.specs.State.{most_live};
-ghost use Rattle.arr_elab.specs.Totals.{lengths, live_by, no_base, weight};
+ghost use Rattle.arr_elab.specs.Totals.{hold, hold_if, lengths, live_by, may_hold, may_hold_if, may_release, may_release_if, release, release_if, weight, with_base};
 
 use arr_overlap::NoMemory;
 use std::alloc::Global;
@@ -86,7 +86,8 @@ impl Bases {
     /// Makes a base of so many elements, for which no name stands.
     pub(crate) fn make(&mut self, count: u32) -> Result<(), NoMemory>
         requires { live_by self.old.first 0 self.old.list + count ≤ most_live }
-        ensures { OnOk result (self.new ≡ record { list = self.old.list ++ (record { length = count; names = 0 }) ∷ []; first = self.old.first }) }
+        ensures made { OnOk result (self.new ≡ record { list = self.old.list ++ (record { length = count; names = 0 }) ∷ []; first = self.old.first }) }
+        ensures unchanged { OnErr result (self.new ≡ self.old) }
     {
         let _live = self.live;
         self.list.push(Base {
@@ -98,36 +99,47 @@ impl Bases {
     }
 
     /// Puts another base in the place of one.
-    fn replace(&mut self, at: usize, base: Base) -> Result<(), NoMemory>
-        requires { at < length self.old.list }
-        ensures { OnOk result (self.new ≡ record { list = slice_set self.old.list at base; first = self.old.first }) }
+    fn replace(&mut self, at: usize, base: Base)
+        requires at { at < length self.old.list }
+        requires room { live_by self.old.first 0 (slice_set self.old.list at base) < 18446744073709551616 }
+        ensures { self.new ≡ with_base self.old at base }
     {
         let rest = self.live - u64::from(weight(self.first, at, self.list[at]));
-        let Some(live) = rest.checked_add(u64::from(weight(self.first, at, base))) else {
-            return Err(NoMemory);
-        };
+        self.live = rest + u64::from(weight(self.first, at, base));
         self.list[at] = base;
-        self.live = live;
-        Ok(())
+    }
+
+    /// Whether a base is there, and the counts have room for one more name of it.
+    fn has_room_for(&self, base: u32) -> bool
+        ensures { result ≡ may_hold self.now base }
+    {
+        let live = self.live;
+        match self.list.get(base as usize) {
+            Some(base) => base.names < u32::MAX
+                && live.checked_add(u64::from(base.length)).is_some(),
+            None => false,
+        }
     }
 
     /// One more name stands for a base.
-    pub(crate) fn hold(&mut self, base: u32) -> Result<(), NoMemory>
-        requires { base < length self.old.list }
-        ensures { OnOk result (let old = get_or self.old.list base no_base in self.new ≡ record { list = slice_set self.old.list base (record { length = old.length; names = old.names + 1 }); first = self.old.first }) }
+    fn hold_one(&mut self, base: u32)
+        requires { IsTrue (may_hold self.old base) }
+        ensures { self.new ≡ hold self.old base }
     {
         let Base { length, names } = self.list[base as usize];
-        let Some(names) = names.checked_add(1) else {
-            return Err(NoMemory);
-        };
-        self.replace(base as usize, Base { length, names })
+        self.replace(
+            base as usize,
+            Base {
+                length,
+                names: names + 1,
+            },
+        );
     }
 
     /// One name less stands for a base.
-    pub(crate) fn release(&mut self, base: u32) -> Result<(), NoMemory>
-        requires base { base < length self.old.list }
-        requires held { 0 < (get_or self.old.list base no_base).names }
-        ensures { OnOk result (let old = get_or self.old.list base no_base in self.new ≡ record { list = slice_set self.old.list base (record { length = old.length; names = old.names - 1 }); first = self.old.first }) }
+    fn release_one(&mut self, base: u32)
+        requires { IsTrue (may_release self.old base) }
+        ensures { self.new ≡ release self.old base }
     {
         let Base { length, names } = self.list[base as usize];
         self.replace(
@@ -136,7 +148,37 @@ impl Bases {
                 length,
                 names: names - 1,
             },
-        )
+        );
+    }
+
+    /// Whether one more name may stand for a base, if one is given.
+    pub(crate) fn may_hold(&self, base: Option<u32>) -> bool
+        ensures { result ≡ may_hold_if self.now base }
+    {
+        match base {
+            Some(base) => self.has_room_for(base),
+            None => true,
+        }
+    }
+
+    /// One more name stands for a base, if one is given.
+    pub(crate) fn hold(&mut self, base: Option<u32>)
+        requires { IsTrue (may_hold_if self.old base) }
+        ensures { self.new ≡ hold_if self.old base }
+    {
+        if let Some(base) = base {
+            self.hold_one(base);
+        }
+    }
+
+    /// One name less stands for a base, if one is given.
+    pub(crate) fn release(&mut self, base: Option<u32>)
+        requires { IsTrue (may_release_if self.old base) }
+        ensures { self.new ≡ release_if self.old base }
+    {
+        if let Some(base) = base {
+            self.release_one(base);
+        }
     }
 
     /// The first base of the statement is of an earlier one from here on.

@@ -1,5 +1,7 @@
 //! What expressions stand for.
 
+ghost use Rattle.std.specs.Prelude.{◌≡◌};
+
 use arr_num::Elem;
 use arr_ops::Op;
 use arr_syntax::Place;
@@ -35,4 +37,16 @@ pub(crate) struct Pending {
 pub(crate) enum Prepared {
     Ready(Value),
     Open(Pending),
+}
+
+impl Array {
+    /// An equal array.
+    pub(crate) fn copied(&self) -> Array
+        ensures { result ≡ self.now }
+    {
+        Array {
+            view: self.view.copied(),
+            elem: self.elem,
+        }
+    }
 }
