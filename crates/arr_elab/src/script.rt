@@ -1,10 +1,11 @@
 //! The statements of a script, one after another.
 
-ghost use Rattle.std.specs.Prelude.{◌≡◌, IfErr, IfOk, Err, Ok};
+ghost use Rattle.std.specs.Prelude.{◌≡◌, IfErr, IfOk, Err, Ok, true};
 ghost use Rattle.arr_syntax.specs.declared.refusal.Refusal.{Refusal};
 ghost use Rattle.arr_elab.specs.declared.fault.ElabFault.TheVariants.{Refused};
 ghost use Rattle.arr_elab.specs.Contract.{Reads};
 ghost use Rattle.arr_elab.specs.Outcome as spec;
+ghost use Rattle.arr_elab.specs.Recording.{is_recording};
 ghost use Rattle.arr_syntax.specs.declared.tree.Form.TheVariants as form;
 
 use crate::fault::ElabFault;
@@ -82,6 +83,8 @@ fn statements(alloc: Global, reader: &mut Reader, mut rest: &[Statement]) -> Res
 pub fn elaborate(alloc: Global, script: &Script) -> Result<Vec<Step>, ElabFault>
     ensures steps { IfOk result (λ steps. spec.outcome script.now.statements ≡ Ok steps.items) }
     ensures refused { IfErr result (λ fault. (r : Refusal) → fault ≡ Refused r → spec.outcome script.now.statements ≡ Err r) }
+    // What the steps keep to.
+    ensures recording { IfOk result (λ steps. is_recording steps.items ≡ true) }
 {
     let mut reader = Reader::new(alloc);
     statements(alloc, &mut reader, script.statements.as_slice())?;
