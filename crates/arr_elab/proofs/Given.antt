@@ -1,6 +1,6 @@
 -- What the forms of expressions give, one step of a definition at a time.
-use Rattle.std.proofs.Common.{◌≡◌, refl, sym, ◌∙◌, ap, subst, ℕ, List, Bool, true, false, cond, Some, None}
-use Rattle.std.specs.Prelude.{Ok, Err}
+use Rattle.std.proofs.Common.{◌≡◌, sym, ◌∙◌, ap, ℕ, List, true, Some, None}
+use Rattle.std.specs.Prelude.{Ok}
 use Rattle.arr_num.specs.declared.code.Code.{Code}
 use Rattle.arr_ops.specs.Formed.{same_elem}
 use Rattle.arr_ops.specs.declared.op.Operand.TheVariants as operand

@@ -1,6 +1,6 @@
 -- The counts stay those of the names.
-use Rattle.std.proofs.Common.{◌≡◌, ◌≢◌, refl, sym, ◌∙◌, ap, subst, ℕ, zero, suc, ◌+◌, ◌-◌, ◌<◌, ◌≤◌, List, [], ◌∷◌, ◌++◌, Bool, true, false, ◌||◌, cond, not, map, nat_lt, nat_le, length, length-append, get_or, set, Option, None, Some, arith}
-use Rattle.std.specs.Prelude.{IsTrue, nat_eq, ◌==◌, Ok, Err}
+use Rattle.std.proofs.Common.{◌≡◌, ◌≢◌, refl, sym, ◌∙◌, ap, subst, ℕ, zero, suc, ◌+◌, ◌<◌, ◌≤◌, List, [], ◌∷◌, ◌++◌, Bool, true, false, ◌||◌, cond, not, nat_lt, nat_le, length, length-append, get_or, set, Some, arith}
+use Rattle.std.specs.Prelude.{Ok, Err}
 use Rattle.arr_view.specs.Strided.{Strided}
 use Rattle.arr_view.specs.Views.{checked, positions, whole_view}
 use Rattle.arr_syntax.specs.declared.refusal.Place.{Place}
@@ -11,10 +11,8 @@ use Rattle.arr_elab.specs.declared.fault.ElabFault.TheVariants.{Refused}
 use Rattle.arr_elab.specs.declared.step.Step.{Step}
 use Rattle.std.proofs.lemmas.List.{length-map}
 use Rattle.arr_elab.specs.declared.bases.Base.{Base}
-use Rattle.arr_elab.specs.declared.value.Array.{Array}
-use Rattle.arr_elab.specs.State.{Names, State, has_base, is_named, live_from, stands_for, with_name, most_live, fresh}
-use Rattle.arr_elab.specs.Totals.{Held, IsKept, lengths, live_by, weight, names_of, tally, base_of, hold_if, release_if, may_hold_if, may_release_if}
-use Rattle.arr_elab.proofs.Named.{one_of, names_with}
+use Rattle.arr_elab.specs.State.{Names, State, has_base, is_named, live_from, most_live, fresh}
+use Rattle.arr_elab.specs.Totals.{Held, IsKept, lengths, live_by, names_of, tally}
 
 -- ---- live elements
 

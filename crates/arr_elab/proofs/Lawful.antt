@@ -1,12 +1,11 @@
 -- What the rules of shapes give is a shape.
-use Rattle.std.proofs.Common.{◌≡◌, refl, sym, ◌∙◌, ap, subst, ℕ, ◌+◌, ◌<◌, ◌≤◌, List, Bool, true, false, cond, not, ◌&&◌, length, arith}
-use Rattle.std.specs.Prelude.{nat_le, nat_lt, max, Result, Ok, Err, IsTrue}
+use Rattle.std.proofs.Common.{◌≡◌, refl, sym, ◌∙◌, subst, ℕ, ◌≤◌, List, Bool, true, false, cond, not, ◌&&◌, length, arith}
+use Rattle.std.specs.Prelude.{nat_le, nat_lt, max, Ok, Err, IsTrue}
 use Rattle.std.specs.List.{list_all}
 use Rattle.std.proofs.lemmas.Bool.{and_parts, and_from}
 use Rattle.arr_view.specs.Strided.{Strided}
-use Rattle.arr_view.specs.Views.{has_rank, positions, is_view, strides_kept, places, is_place}
-use Rattle.arr_shape.specs.declared.fault.ShapeFault.{ShapeFault}
-use Rattle.arr_shape.specs.declared.fault.ShapeFault.TheVariants.{ShapeMismatch, EmptyArray, RankRange, TooManyElements}
+use Rattle.arr_view.specs.Views.{has_rank, positions, is_view, strides_kept}
+use Rattle.arr_shape.specs.declared.fault.ShapeFault.TheVariants.{EmptyArray, RankRange, TooManyElements}
 use Rattle.arr_shape.specs.Shapes.{is_shape, checked_shape, broadcast, joined, all_match, greater, padded}
 use Rattle.arr_shape.proofs.Shapes.{shape_of, ranked, length-padded, padded_lengths, length-greater, greater_lengths, mismatched, matched}
 

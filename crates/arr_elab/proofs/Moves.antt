@@ -1,13 +1,13 @@
 -- A name stands for something else: the counts go with it.
-use Rattle.std.proofs.Common.{◌≡◌, ◌≢◌, refl, sym, ◌∙◌, ap, subst, ℕ, zero, suc, ◌+◌, ◌-◌, ◌<◌, ◌≤◌, List, [], ◌∷◌, Bool, true, false, ◌&&◌, cond, map, nat_lt, length, length-set, get_or, set, Option, None, Some, arith}
-use Rattle.std.specs.Prelude.{IsTrue, ◌==◌, Ok}
+use Rattle.std.proofs.Common.{◌≡◌, ◌≢◌, refl, sym, ◌∙◌, ap, subst, ℕ, suc, ◌+◌, ◌-◌, ◌<◌, ◌≤◌, List, [], ◌∷◌, true, nat_lt, length, get_or, set, Option, None, Some, arith}
+use Rattle.std.specs.Prelude.{IsTrue, Ok}
 use Rattle.std.proofs.lemmas.List.{length-map}
 use Rattle.arr_elab.specs.declared.bases.Base.{Base}
 use Rattle.arr_elab.specs.declared.value.Array.{Array}
 use Rattle.arr_elab.specs.declared.step.Step.{Step}
-use Rattle.arr_elab.specs.State.{Names, State, has_base, stands_for, with_name}
+use Rattle.arr_elab.specs.State.{Names, State, stands_for, with_name}
 use Rattle.arr_elab.specs.Outcome.{set_name}
-use Rattle.arr_elab.specs.Totals.{Held, IsKept, no_base, base_at, lengths, names_of, tally, base_of, may_hold, may_release, hold_if, release_if, may_hold_if, may_release_if}
+use Rattle.arr_elab.specs.Totals.{Held, IsKept, no_base, lengths, names_of, tally, base_of, may_hold, may_release, hold_if, release_if, may_hold_if, may_release_if}
 use Rattle.arr_elab.proofs.Named.{one_of, names_with}
 use Rattle.arr_elab.proofs.Kept.{seen, tally_same, tally_at, tally_set}
 

@@ -1,5 +1,5 @@
 -- Definitions, computed.
-use Rattle.std.specs.Prelude.{◌≡◌, refl, pos, negsuc, ◌<◌, List, [], ◌∷◌, Bool, true, false, Option, None, Some}
+use Rattle.std.specs.Prelude.{◌≡◌, refl, pos, negsuc, [], ◌∷◌, true, false, None, Some}
 use Rattle.arr_num.specs.declared.elem.Elem.TheVariants.{I64}
 use Rattle.arr_view.specs.Views.{whole_view}
 use Rattle.arr_elab.specs.declared.value.Array.{Array}

@@ -1,5 +1,5 @@
 use Rattle.std.proofs.Common.{◌≡◌, ◌∙◌, ap, sym, subst, true}
-use Rattle.std.specs.Prelude.{IsTrue, Ok}
+use Rattle.std.specs.Prelude.{Ok}
 use Rattle.arr_shape.specs.Shapes.{broadcast, is_shape}
 use Rattle.arr_elab.proofs.Given.{arrays_joined}
 use Rattle.arr_elab.proofs.Lawful.{view_shaped, broadcast_shaped}

@@ -1,4 +1,4 @@
-use Rattle.std.proofs.Common.{rules, arith}
+use Rattle.std.proofs.Common.{rules}
 use Rattle.arr_elab.proofs.joined.joined.Goals as goal
 
 pub returns-in-Array-y : goal.returns-in-Array-y

@@ -1,4 +1,4 @@
-use Rattle.std.proofs.Common.{rules, arith, ◌≡◌, ◌+◌, ◌<◌, ◌≤◌, length}
+use Rattle.std.proofs.Common.{rules, arith, ◌+◌, ◌<◌, length}
 use Rattle.arr_elab.proofs.Totals.{aged, weight_le}
 use Rattle.arr_elab.proofs.bases.Bases.age.Goals as goal
 

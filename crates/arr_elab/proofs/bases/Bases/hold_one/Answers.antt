@@ -1,4 +1,4 @@
-use Rattle.std.proofs.Common.{rules, arith, ◌≡◌, get_or}
+use Rattle.std.proofs.Common.{rules, ◌≡◌, get_or}
 use Rattle.arr_elab.proofs.Totals.{hold_room}
 use Rattle.arr_elab.proofs.bases.Bases.hold_one.Goals as goal
 

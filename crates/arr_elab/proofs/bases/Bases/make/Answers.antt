@@ -1,4 +1,4 @@
-use Rattle.std.proofs.Common.{rules, arith}
+use Rattle.std.proofs.Common.{arith}
 use Rattle.arr_elab.proofs.Totals.{live_make}
 use Rattle.arr_elab.proofs.bases.Bases.make.Goals as goal
 

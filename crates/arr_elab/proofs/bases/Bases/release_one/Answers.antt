@@ -1,4 +1,4 @@
-use Rattle.std.proofs.Common.{rules, arith, ◌≡◌, ◌+◌, ◌-◌, ◌<◌, ◌≤◌, length, get_or}
+use Rattle.std.proofs.Common.{rules, arith, ◌≡◌, ◌-◌, ◌<◌, get_or}
 use Rattle.arr_elab.specs.Totals.{live_by}
 use Rattle.arr_elab.proofs.Totals.{released}
 use Rattle.arr_elab.proofs.bases.Bases.release_one.Goals as goal

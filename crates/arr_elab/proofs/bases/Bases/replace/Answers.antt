@@ -1,5 +1,5 @@
-use Rattle.std.proofs.Common.{rules, arith, ◌≡◌, ◌+◌, ◌<◌, ◌≤◌, length, length-set, set}
-use Rattle.arr_elab.specs.Totals.{live_by, weight}
+use Rattle.std.proofs.Common.{rules, arith, ◌<◌, length, length-set, set}
+use Rattle.arr_elab.specs.Totals.{live_by}
 use Rattle.arr_elab.proofs.Totals.{replaced, part}
 use Rattle.arr_elab.proofs.bases.Bases.replace.Goals as goal
 

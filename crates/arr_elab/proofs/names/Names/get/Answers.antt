@@ -1,4 +1,4 @@
-use Rattle.std.proofs.Common.{rules, arith, ◌≡◌}
+use Rattle.std.proofs.Common.{rules}
 use Rattle.arr_elab.proofs.Named.{found}
 use Rattle.arr_elab.proofs.names.Names.get.Goals as goal
 

@@ -1,4 +1,4 @@
-use Rattle.std.proofs.Common.{rules, arith, ◌≡◌}
+use Rattle.std.proofs.Common.{rules}
 use Rattle.arr_elab.proofs.Named.{number_is}
 use Rattle.arr_elab.proofs.names.Names.number.Goals as goal
 

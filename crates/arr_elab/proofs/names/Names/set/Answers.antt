@@ -1,4 +1,4 @@
-use Rattle.std.proofs.Common.{rules, arith, ◌≡◌, ◌∙◌, ap}
+use Rattle.std.proofs.Common.{arith, ◌≡◌, ◌∙◌, ap}
 use Rattle.std.specs.Option.{option_flatten}
 use Rattle.arr_elab.specs.State.{with_name}
 use Rattle.arr_elab.proofs.Named.{inserted, bound_then, shown, one}

@@ -1,4 +1,4 @@
-use Rattle.std.proofs.Common.{rules, arith, ◌≡◌, ◌∙◌, ap, sym}
+use Rattle.std.proofs.Common.{◌≡◌, ◌∙◌, ap, sym}
 use Rattle.arr_elab.specs.State.{State, stands_for}
 use Rattle.arr_elab.specs.Totals.{base_of}
 use Rattle.arr_elab.proofs.Moves.{release_allowed, kept_after, state_after}
