@@ -6,7 +6,7 @@
 //!
 //! The promise: of a formed list, `rewrite` answers exactly the normal form (`normal_form`). No rule applies to it, it is formed, every
 //! memory that fits the list fits it, and from each of these it leaves what the list leaves. Want of memory is the one refusal: one copy
-//! of the list is taken, which each application changes in its place, and a row of bits where the overlap of two views asks for one.
+//! of the list is taken, which each application changes in its place, and whether two views overlap is kept once it is found.
 //!
 //! The definitions, in `specs/`: `Rules` (what an operation becomes, and the rules on one operation), `Writers` (who writes what an
 //! operation reads), `NextRewrite` (the rules on the list, and the application that comes next), `NormalForm` (the end, and a number

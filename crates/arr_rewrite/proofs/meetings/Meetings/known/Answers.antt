@@ -1,7 +1,7 @@
 use Rattle.std.proofs.Common.{◌≡◌, Bool, true, ◌&&◌, ap₂, sym, ◌∙◌}
 use Rattle.std.specs.Prelude.{◌==◌}
 use Rattle.arr_view.specs.Strided.{Strided}
-use Rattle.arr_view.specs.Views.{elements, identical, overlap, share}
+use Rattle.arr_view.specs.Views.{identical, overlap, share}
 use Rattle.arr_ops.proofs.Alike.{Alike, alike}
 use Rattle.arr_rewrite.proofs.meetings.Meetings.known.Goals as goal
 
