@@ -6,21 +6,18 @@ use Rattle.std.specs.Prelude.{◌==◌, nat_eq, is_none}
 use Rattle.std.specs.List.{list_all, range_with_len}
 use Rattle.std.specs.Option.{option_to_list}
 use Rattle.arr_view.specs.Strided.{Strided}
-use Rattle.arr_view.specs.Views.{elements, has, positions, same_lists}
+use Rattle.arr_view.specs.Views.{has, positions}
 use Rattle.arr_ops.specs.declared.op.Op.{Op}
-use Rattle.arr_ops.specs.declared.op.Operand.{Operand}
-use Rattle.arr_ops.specs.declared.op.Operand.TheVariants.{Array, Number}
 use Rattle.arr_ops.specs.Ops.{creates, outputs}
 use Rattle.arr_ops.specs.Fits.{Need, fits, meets_need, needs, op_fits}
 use Rattle.arr_ops.specs.Formed.{is_formed, slot_numbers, well_formed}
-use Rattle.arr_num.specs.declared.code.Code.{Code}
-use Rattle.arr_num.specs.declared.code.Code.TheVariants.{Range}
-use Rattle.arr_ops.specs.Memory.{Cell, Memory, Slot, change, changed, computed, eager, first_numbers, lengths_of, operand, or_zero, out_lengths, read, results, slot_after, step}
+use Rattle.arr_ops.specs.Memory.{Cell, Memory, Slot, computed, eager, lengths_of, slot_after, step}
 use Rattle.arr_ops.proofs.Alike.{same_list}
 use Rattle.arr_ops.proofs.Independent.{same_elem_refl}
 use Rattle.arr_ops.proofs.Tests.{both_left, both_right, same_from_test}
 use Rattle.arr_store.specs.Slots.{blank_slot, blank_slots}
-use Rattle.arr_perform.specs.Performed.{bare, can_run, can_run_all, shows}
+use Rattle.arr_perform.specs.Performed.{bare, can_run_all, shows}
+use Rattle.arr_perform.proofs.Performing.{bases_alike, computed_alike, with_slots}
 use Rattle.arr_perform.proofs.Alone.{EachFits, each_fits_alone}
 
 -- ---- the slots of a list ascend
@@ -52,22 +49,11 @@ ascend ops h = same_from_test _ _ (both_left _ _ (both_right (list_all well_form
 
 -- ---- slots change nothing in bases
 
-operand_same : (f g : Memory) (n : ℕ) (o : Option Operand) → f.bases ≡ g.bases → operand f n o ≡ operand g n o
-operand_same f g n None e = refl
-operand_same f g n (Some (Number z)) e = refl
-operand_same f g n (Some (Array v)) e = ap (λ (bases : ℕ → Option Cell). read (bases v.base) (elements v)) e
-
-first_same : (code : Code) (f g : Memory) (n : ℕ) (o : Option Operand) → f.bases ≡ g.bases → first_numbers code f n o ≡ first_numbers code g n o
-first_same Range f g n o e = refl
-first_same _ f g n o e = operand_same f g n o e
-
 computed_same : (f g : Memory) (op : Op) → f.bases ≡ g.bases → computed f op ≡ computed g op
-computed_same f g op e =
-    let n : ℕ = positions (out_lengths op.out) in
-    ap₂ (results op.code op.to (lengths_of op.first) (or_zero op.axis)) (first_same op.code f g n op.first e) (operand_same f g n op.second e)
+computed_same f g op e = computed_alike f.bases f.slots g.slots op ∙ ap (λ bases. computed (with_slots bases g.slots) op) e
 
 step_bases : (f g : Memory) (op : Op) → f.bases ≡ g.bases → (step f op).bases ≡ (step g op).bases
-step_bases f g op e = ap₂ (λ xs (bases : ℕ → Option Cell). λ b. changed (change op xs b) (bases b)) (computed_same f g op e) e
+step_bases f g op e = bases_alike f.bases f.slots g.slots op ∙ ap (λ bases. (step (with_slots bases g.slots) op).bases) e
 
 pub same_bases : (ops : List Op) (f g : Memory) → f.bases ≡ g.bases → (eager f ops).bases ≡ (eager g ops).bases
 same_bases [] f g e = e
