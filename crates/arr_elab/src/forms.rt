@@ -13,11 +13,10 @@ ghost use Rattle.arr_elab.specs.Outcome.{prepared};
 use crate::codes::{binary_code, elem_of, fold_code, is_reduction, spelled, unary_code};
 use crate::fault::ElabFault;
 use crate::joined::{filled, joined};
-use crate::operation::{operation, pending, ruled, seen, settled, shape_of, taken};
+use crate::operation::{exponent_of, operation, pending, ruled, seen, settled, shape_of, taken};
 use crate::reader::Reader;
 use crate::value::{Array, Prepared, Value};
 use arr_num::Code;
-use arr_ops::Operand;
 use arr_overlap::NoMemory;
 use arr_shape::{
     Slice, checked_axis, checked_shape, reduced, reshape, slice, spread, strided, transpose,
@@ -109,8 +108,14 @@ fn power(
 {
     let x = array(alloc, reader, of)?;
     let shape = shape_of(&x.view);
-    let exponent = Some(Operand::Number(i128::from(exponent)));
-    let op = operation(Code::Power, x.elem, x.elem, taken(x.view), exponent, None);
+    let op = operation(
+        Code::Power,
+        x.elem,
+        x.elem,
+        taken(x.view),
+        exponent_of(exponent),
+        None,
+    );
     Ok(pending(at, shape, op))
 }
 

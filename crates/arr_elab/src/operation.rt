@@ -1,6 +1,9 @@
 //! Operations, from their parts to their place among the steps.
 
-ghost use Rattle.std.specs.Prelude.{◌≡◌, Some, None, Ok};
+ghost use Rattle.std.specs.Prelude.{◌≡◌, pos, Some, None, Ok};
+ghost use Rattle.arr_num.specs.Numbers.{wrap};
+ghost use Rattle.arr_num.specs.declared.elem.Elem.TheVariants as elem;
+ghost use Rattle.arr_ops.specs.declared.op.Operand.TheVariants as operand;
 ghost use Rattle.arr_elab.specs.declared.fault.ElabFault.TheVariants.{Refused};
 ghost use Rattle.arr_elab.specs.declared.value.Prepared.TheVariants.{Ready, Open};
 ghost use Rattle.arr_elab.specs.declared.value.Value.TheVariants as value;
@@ -58,6 +61,14 @@ pub(crate) fn taken(view: View) -> Option<Operand>
     ensures { result ≡ spec.taken view }
 {
     Some(Operand::Array(view))
+}
+
+/// An exponent, which is a number of type u64.
+#[tactic(auto, using(arr_num::proofs::Wrapping::wrap_same))]
+pub(crate) fn exponent_of(exponent: u64) -> Option<Operand>
+    ensures { result ≡ Some (operand.Number (wrap elem.U64 (pos exponent))) }
+{
+    Some(Operand::Number(i128::from(exponent)))
 }
 
 /// An operation that is not recorded yet.
