@@ -5,11 +5,21 @@
 #[cfg(test)]
 mod grammar;
 #[cfg(test)]
+mod listing;
+#[cfg(test)]
+mod lists;
+#[cfg(test)]
 mod numbers;
 #[cfg(test)]
 mod overlaps;
 #[cfg(test)]
 mod program;
+#[cfg(test)]
+mod rewriting;
+#[cfg(test)]
+mod runs;
+#[cfg(test)]
+mod scripts;
 #[cfg(test)]
 mod shapes;
 #[cfg(test)]

@@ -1,12 +1,12 @@
-//! Scripts from bytes to bytes, with sources and sinks that give, take and fail as the test says.
+//! The program from words and bytes to bytes, with sources and sinks that give, take and fail as the test says.
 
 ghost use Rattle.std.specs.Prelude.{◌<◌};
 
+use crate::runs::{run, source};
 use arr_io::{
-    MemorySink, MemorySource, NoMemory, ReadFailure, Sink, StdSink, StdSource, SureSink,
-    SureSource, WriteFault, read_all, read_up_to, write_all,
+    MemorySink, NoMemory, ReadFailure, Sink, StdSink, StdSource, SureSink, SureSource, WriteFault,
+    read_all, read_up_to, write_all,
 };
-use arr_run::serve;
 use std::alloc::Global;
 use std::process::Abort;
 use std::test::Fail;
@@ -15,134 +15,6 @@ const USAGE: &str =
     "usage: bohrium run [--plan|--cert] [--fuse=linear|greedy|best] [--budget=N] | bohrium check FILE | bohrium demo N\n";
 
 const SUM: &str = "a = range(5)\nc = a + a\nprint c\n";
-
-/// What a run answers.
-#[derive(Debug, Drop)]
-struct Ran {
-    status: u8,
-    written: Vec<u8>,
-}
-
-/// A source of these bytes, which come `piece` at a time; the call with the number `fails` fails, none where it is 0.
-fn source(alloc: Global, bytes: &[u8], piece: usize, fails: u64) -> Result<MemorySource, NoMemory>
-    requires { 0 < piece }
-{
-    Ok(MemorySource {
-        bytes: bytes.to_vec(alloc)?,
-        at: 0,
-        piece,
-        calls: 0,
-        fails: vec![in alloc; fails]?,
-        failed: 0,
-    })
-}
-
-/// Runs the program with a source and a sink that fail at these calls, none where it is 0.
-fn run(
-    alloc: Global,
-    words: &[&str],
-    script: &[u8],
-    read_fails: u64,
-    piece: usize,
-    write_fails: u64,
-) -> Result<Ran, NoMemory>
-    requires { 0 < piece }
-{
-    let mut texts = Vec::new(alloc);
-    for word in words {
-        texts.push(String::from_str(alloc, word)?)?;
-    }
-    let mut script = source(alloc, script, piece, read_fails)?;
-    let mut proof = SureSource { bytes: &[] };
-    let mut sink = MemorySink::new(alloc, 1_000_000, piece, vec![in alloc; write_fails]?)?;
-    let status = serve(alloc, &texts, &mut script, &mut proof, &mut sink);
-    let MemorySink { bytes, .. } = sink;
-    Ok(Ran {
-        status,
-        written: bytes,
-    })
-}
-
-/// Whether the program, run with `run` and ample memory, answers this status and these bytes.
-fn answers(
-    rt: &impl Abort,
-    alloc: Global,
-    script: &str,
-    status: u8,
-    text: &str,
-) -> Result<(), NoMemory> {
-    let ran = run(alloc, &["run"], script.as_bytes(), 0, 4096, 0)?;
-    assert_eq!(rt; ran.status, status, "{script}");
-    assert_eq!(rt; ran.written.as_slice(), text.as_bytes(), "{script}");
-    Ok(())
-}
-
-#[test]
-fn scripts_print_their_arrays(rt: HostRuntime) -> Result<(), Fail> {
-    let alloc = rt.alloc();
-    answers(&rt, alloc, "", 0, "")?;
-    answers(&rt, alloc, "\n\n# nothing\n \t\r\n", 0, "")?;
-    answers(
-        &rt,
-        alloc,
-        "a = range(5)\nprint a\n",
-        0,
-        "i64 5\n0 1 2 3 4\n",
-    )?;
-    answers(&rt, alloc, "a = range(5)\nprint a", 0, "i64 5\n0 1 2 3 4\n")?;
-    answers(&rt, alloc, SUM, 0, "i64 5\n0 2 4 6 8\n")?;
-    answers(
-        &rt,
-        alloc,
-        "a=range ( 0003 ) # three\n\tprint a\n",
-        0,
-        "i64 3\n0 1 2\n",
-    )?;
-    answers(
-        &rt,
-        alloc,
-        "a = range(2)\nb = a + a\na = b + b\nprint a\nprint b\n",
-        0,
-        "i64 2\n0 4\ni64 2\n0 2\n",
-    )?;
-    Ok(())
-}
-
-#[test]
-fn sums_wrap(rt: HostRuntime) -> Result<(), Fail> {
-    let alloc = rt.alloc();
-    let mut script = String::from_str(alloc, "a = range(2)\n")?;
-    for _ in 0..63 {
-        script.push_str("a = a + a\n")?;
-    }
-    script.push_str("print a\n")?;
-    answers(
-        &rt,
-        alloc,
-        script.as_str(),
-        0,
-        "i64 2\n0 -9223372036854775808\n",
-    )?;
-    Ok(())
-}
-
-#[test]
-fn other_scripts_are_refused(rt: HostRuntime) -> Result<(), Fail> {
-    let alloc = rt.alloc();
-    let refused = "refused 1:1 Unexpected\n";
-    for script in [
-        "print q\n",
-        "a = range(2)\nb = range(3)\nc = a + b\n",
-        "a = range(0)\n",
-        "a = range(1048577)\n",
-        "a = range(2)\nb = a\n",
-        "a = range(2)\nprint a\nb = a - a\n",
-        "flush\n",
-    ] {
-        answers(&rt, alloc, script, 1, refused)?;
-    }
-    Ok(())
-}
 
 #[test]
 fn long_scripts_are_refused_behind_the_limit(rt: HostRuntime) -> Result<(), Fail> {
@@ -212,6 +84,13 @@ fn each_writing_fault_ends_the_run(rt: HostRuntime) -> Result<(), Fail> {
     let text = b"i64 5\n0 2 4 6 8\n";
     for fails in 1..=text.len() {
         let ran = run(alloc, &["run"], SUM.as_bytes(), 0, 1, fails as u64)?;
+        assert_eq!(rt; ran.status, 4, "write {fails}");
+        assert_eq!(rt; ran.written.as_slice(), &text[..fails - 1], "write {fails}");
+    }
+    let two = b"a = range(2)\nprint a\nflush\nprint a * 3\n";
+    let text = b"i64 2\n0 1\ni64 2\n0 3\n";
+    for fails in 1..=text.len() {
+        let ran = run(alloc, &["run"], two, 0, 1, fails as u64)?;
         assert_eq!(rt; ran.status, 4, "write {fails}");
         assert_eq!(rt; ran.written.as_slice(), &text[..fails - 1], "write {fails}");
     }

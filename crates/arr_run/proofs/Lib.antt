@@ -4,4 +4,3 @@ pub mod Writes
 pub mod Printed
 pub mod Turns
 pub mod Whole
-pub mod Ready

@@ -1,6 +1,6 @@
 -- What the slots of a list show when it has run.
-use Rattle.std.proofs.Common.{◌≡◌, ◌≢◌, ℕ, zero, suc, ◌+◌, ◌<◌, ℤ, List, [], ◌∷◌, ◌++◌, length, Bool, true, ◌&&◌, cond, refl, ap, sym, ◌∙◌, arith, Option, Some, None, append-nil}
-use Rattle.std.proofs.lemmas.Bool.{eq-eqb, ne_eqb, false≢true}
+use Rattle.std.proofs.Common.{◌≡◌, ℕ, ◌+◌, ◌<◌, ℤ, List, [], ◌∷◌, ◌++◌, length, Bool, true, ◌&&◌, refl, ap, sym, ◌∙◌, arith, Option, Some, None, append-nil}
+use Rattle.std.proofs.lemmas.Bool.{false≢true}
 use Rattle.std.proofs.lemmas.List.{length-map}
 use Rattle.std.proofs.lemmas.List.Concat.{flat_map-append}
 use Rattle.std.proofs.lemmas.List.Elements.{All-cons, All-nil}
@@ -16,11 +16,12 @@ use Rattle.arr_ops.specs.declared.op.Operand.{Operand}
 use Rattle.arr_ops.specs.declared.op.Operand.TheVariants.{Array, Number}
 use Rattle.arr_ops.specs.Ops.{inputs, outputs, view_of}
 use Rattle.arr_ops.specs.Formed.{elementwise, is_array, is_formed, operands_kept, plain, slot_numbers, well_formed}
-use Rattle.arr_ops.specs.Memory.{Cell, Memory, Slot, computed, eager, first_numbers, lengths_of, operand, or_zero, out_lengths, read, results, slot_after, step}
+use Rattle.arr_ops.specs.Memory.{Cell, Memory, Slot, computed, eager, first_numbers, lengths_of, operand, or_zero, out_lengths, read, results, step}
 use Rattle.arr_ops.proofs.Parts.{length-elements, prints}
 use Rattle.arr_ops.proofs.Spots.{all_left, all_right, operands_of, views_of}
-use Rattle.arr_ops.proofs.Tests.{both_left, both_right, same_from_test}
+use Rattle.arr_ops.proofs.Tests.{both_left, both_right}
 use Rattle.arr_store.proofs.Pages.{first_is_array}
+use Rattle.arr_perform.proofs.Ready.{Behind, ascend, behind, filled, kept_slot}
 use Rattle.arr_elab.specs.Steps.{printed}
 use Rattle.arr_run.specs.Texts.{array_text}
 use Rattle.arr_run.specs.Shown.{AllShow, Shows, shown_text, slot_text, slots_text}
@@ -72,33 +73,11 @@ length_shown m op is w =
 
 -- ---- every slot of a list is filled once
 
--- the slots behind an operation come after its own
-pub record Behind (slot : Option ℕ) (rest : List ℕ) (j : ℕ) : Type 0 where
-  pub from : ℕ
-  pub count : ℕ
-  pub is : rest ≡ range_with_len from count
-  pub later : j < from + 1
-  pub own : (s : ℕ) → slot ≡ Some s → (s < from) × (j < s + 1)
-
-pub behind : (slot : Option ℕ) (rest : List ℕ) (j n : ℕ) → option_to_list slot ++ rest ≡ range_with_len j n → Behind slot rest j
-behind None rest j n e = record { from = j; count = n; is = e; later = omega arith; own = λ s h. absurd (cc) }
-behind (Some a) rest j zero e = absurd (cc)
-behind (Some a) rest j (suc n) e =
-    let here : a ≡ j = cc in
-    record { from = j + 1; count = n; is = cc; later = omega arith; own = λ s h. let same : a ≡ s = cc in (omega arith, omega arith) }
-
-pub kept_slot : (slot : Option ℕ) (new : Slot) (s : ℕ) (old : Option Slot) → ((a : ℕ) → slot ≡ Some a → a ≢ s) → slot_after slot new s old ≡ old
-kept_slot None new s old h = refl
-kept_slot (Some a) new s old h = ap (λ b. cond b (Some new) old) (ne_eqb a s (h a refl))
-
 untouched : (ops : List Op) (m : Memory) (j n s : ℕ) → slot_numbers ops ≡ range_with_len j n → s < j → (eager m ops).slots s ≡ m.slots s
 untouched [] m j n s e l = refl
 untouched (op ∷ ops) m j n s e l =
     let b : Behind op.slot (slot_numbers ops) j = behind op.slot (slot_numbers ops) j n e in
     untouched ops (step m op) b.from b.count s b.is (let h : j < b.from + 1 = b.later in omega arith) ∙ kept_slot op.slot _ s (m.slots s) (λ a h same. let k : j < a + 1 = (b.own a h).1 in absurd (omega arith))
-
-pub filled : (slot : Option ℕ) (new : Slot) (s : ℕ) (old : Option Slot) → slot ≡ Some s → slot_after slot new s old ≡ Some new
-filled slot new s old e = ap (λ k. slot_after k new s old) e ∙ ap (λ b. cond b (Some new) old) (eq-eqb s s refl)
 
 all_show : (ops : List Op) (m : Memory) (j n : ℕ) → list_all well_formed ops ≡ true → slot_numbers ops ≡ range_with_len j n → AllShow (eager m ops).slots ops
 all_show [] m j n w e = All-nil _
@@ -116,9 +95,6 @@ all_show (op ∷ ops) m j n w e =
       count = length_shown m op some well;
     })
     (all_show ops (step m op) b.from b.count (both_right (well_formed op) _ w) b.is)
-
-pub ascend : (ops : List Op) → is_formed ops ≡ true → slot_numbers ops ≡ range_with_len 1 (length (slot_numbers ops))
-ascend ops h = same_from_test _ _ (both_left _ _ (both_right (list_all well_formed ops) _ h))
 
 pub formed_show : (ops : List Op) (m : Memory) → is_formed ops ≡ true → AllShow (eager m ops).slots ops
 formed_show ops m h = all_show ops m 1 (length (slot_numbers ops)) (both_left (list_all well_formed ops) _ h) (ascend ops h)

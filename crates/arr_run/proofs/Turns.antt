@@ -1,14 +1,17 @@
 -- Lists that run one after another, one more list.
-use Rattle.std.proofs.Common.{◌≡◌, ℕ, ◌+◌, ◌*◌, ◌<◌, List, ◌∷◌, ◌++◌, length, drop, get_or, true, ap, sym, subst, ◌∙◌, arith}
+use Rattle.std.proofs.Common.{◌≡◌, ℕ, ◌+◌, ◌*◌, ◌<◌, ◌≤◌, List, ◌∷◌, ◌++◌, length, drop, get_or, true, ap, sym, subst, ◌∙◌, arith}
 use Rattle.std.proofs.lemmas.List.{drop_more}
 use Rattle.std.proofs.lemmas.List.Concat.{flat_map-append}
-use Rattle.std.specs.List.{flat_map}
+use Rattle.std.proofs.lemmas.Bool.{leb-true}
+use Rattle.std.specs.Prelude.{nat_le}
+use Rattle.std.specs.List.{flat_map, list_all}
 use Rattle.arr_ops.specs.declared.op.Op.{Op}
 use Rattle.arr_ops.specs.Fits.{fits}
 use Rattle.arr_ops.specs.Memory.{Memory}
 use Rattle.arr_ops.proofs.Tests.{both_left, both_right}
 use Rattle.arr_elab.specs.Steps.{printed}
-use Rattle.arr_record.specs.Runs.{after_list, after_lists, each_fits, printed_lists}
+use Rattle.arr_record.specs.Runs.{after_list, after_lists, each_fits, is_sized, printed_lists}
+use Rattle.arr_store.proofs.Pages.{passes}
 use Rattle.arr_store.specs.Stored.{Stored}
 use Rattle.arr_run.specs.Texts.{array_text}
 use Rattle.arr_run.specs.Lists.{RisesBy, lists_text}
@@ -44,3 +47,9 @@ risen i k a b c f g =
       stores = let p = f.stores in let q = g.stores in omega arith;
       made = let p = f.made in let q = g.made in omega arith;
     }
+
+-- no list is longer than it may be
+pub short_list : (lists : List (List Op)) (i : ℕ) (x item : List Op) → i < length lists → x ≡ item → item ≡ get_or lists i item → list_all is_sized lists ≡ true → length x ≤ 256
+short_list lists i x item l same is sized =
+    let ok : is_sized x ≡ true = ap is_sized (same ∙ is) ∙ passes is_sized lists i item l sized in
+    leb-true (length x) 256 (both_right (nat_le 1 (length x)) (nat_le (length x) 256) ok)

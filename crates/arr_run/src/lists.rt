@@ -1,19 +1,17 @@
 //! Lists that run on the store, each printed when it has run.
-ghost use Rattle.std.specs.Prelude.{◌≡◌, ◌≤◌, ◌<◌, ◌^◌, ℕ, true, Some, IfOk, OnOk, length};
+ghost use Rattle.std.specs.Prelude.{◌≡◌, ◌≤◌, ◌<◌, ◌^◌, ℕ, true, Some, OnOk, length};
 ghost use Rattle.std.specs.List.{flat_map, list_all};
 ghost use Rattle.arr_ops.specs.Fits.{fits};
 ghost use Rattle.arr_ops.specs.Formed.{is_formed};
-ghost use Rattle.arr_ops.specs.Memory.{eager};
 ghost use Rattle.arr_elab.specs.Steps.{printed};
-ghost use Rattle.arr_record.specs.Runs.{after_list, after_lists, each_fits};
-ghost use Rattle.arr_record.specs.Small.{AllSmall};
+ghost use Rattle.arr_record.specs.Runs.{after_list, after_lists, each_fits, is_sized};
 ghost use Rattle.arr_store.specs.Slots.{slots_of};
 ghost use Rattle.arr_run.specs.Texts.{array_text};
 ghost use Rattle.arr_run.specs.Shown.{AllShow, Shows, slot_text, slots_text};
 ghost use Rattle.arr_run.specs.Lists.{Caused, CountsBelow, RisesBy, Wrote, lists_text, memory_of};
 
 use crate::texts::push_array;
-use arr_io::{NoMemory, Sink, WriteFault, write_all};
+use arr_io::{Sink, WriteFault, write_all};
 use arr_ops::Op;
 use arr_perform::perform_all;
 use arr_record::Flush;
@@ -64,25 +62,6 @@ fn print<K: Sink>(alloc: Global, ops: &[Op], slots: &Slots, sink: &mut K) -> Res
     Ok(())
 }
 
-/// Runs a list, and answers what its SYNCs show.
-fn performed(alloc: Global, ops: &[Op], store: &mut Store) -> Result<Slots, NoMemory>
-    requires formed { is_formed ops.now ≡ true }
-    requires fitting { fits (memory_of store.old) ops.now ≡ true }
-    requires few { length ops.now ≤ 256 }
-    requires counts { CountsBelow (2 ^ 61) store.old }
-    ensures shown { IfOk result (λ slots. slots_of slots ≡ (eager (memory_of store.old) ops.now).slots) }
-    ensures memory { OnOk result (memory_of store.new ≡ after_list (memory_of store.old) ops.now) }
-    ensures counts { OnOk result (RisesBy (2 ^ 32) store.old store.new) }
-{
-    let Ok(mut slots) = Slots::for_list(alloc, ops) else {
-        return Err(NoMemory);
-    };
-    let Ok(()) = perform_all(alloc, ops, store, &mut slots) else {
-        return Err(NoMemory);
-    };
-    Ok(slots)
-}
-
 /// Runs a list, and prints what it shows.
 fn run_list<K: Sink>(
     alloc: Global,
@@ -99,7 +78,10 @@ fn run_list<K: Sink>(
     ensures memory { OnOk result (memory_of store.new ≡ after_list (memory_of store.old) ops.now) }
     ensures counts { OnOk result (RisesBy (2 ^ 32) store.old store.new) }
 {
-    let Ok(slots) = performed(alloc, ops, store) else {
+    let Ok(mut slots) = Slots::for_list(alloc, ops) else {
+        return Err(RunFault::NoMemory);
+    };
+    let Ok(()) = perform_all(alloc, ops, store, &mut slots) else {
         return Err(RunFault::NoMemory);
     };
     print(alloc, ops, &slots, sink)
@@ -114,7 +96,7 @@ pub(crate) fn run_lists<K: Sink>(
 ) -> Result<(), RunFault>
     requires formed { list_all is_formed lists.now ≡ true }
     requires fitting { each_fits (memory_of store.old) lists.now ≡ true }
-    requires small { AllSmall lists.now }
+    requires sized { list_all is_sized lists.now ≡ true }
     requires few { length lists.now ≤ 4_194_304 }
     requires counts { CountsBelow (2 ^ 59) store.old }
     ensures wrote { Wrote result (K.written sink.old) (K.written sink.new) (lists_text (memory_of store.old) lists.now) }

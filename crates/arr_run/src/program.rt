@@ -6,8 +6,7 @@ ghost use Rattle.std.specs.Io.KnownBytes.{Appends};
 ghost use Rattle.arr_io.specs.Causes.{Rose};
 ghost use Rattle.arr_elab.specs.declared.step.Step.{Step};
 ghost use Rattle.arr_ops.specs.Formed.{is_formed};
-ghost use Rattle.arr_record.specs.Runs.{after_lists, each_fits};
-ghost use Rattle.arr_record.specs.Small.{AllSmall};
+ghost use Rattle.arr_record.specs.Runs.{after_lists, each_fits, is_sized};
 ghost use Rattle.arr_store.specs.Stored.{cells};
 ghost use Rattle.arr_run.specs.Answers.{Accepts, Answered, BrokenOff, CutShort, IsReadOut};
 ghost use Rattle.arr_run.specs.Lists.{CountsBelow, Ended, lists_text, memory_of};
@@ -135,7 +134,7 @@ fn run<S: Source, K: Sink>(alloc: Global, store: &mut Store, script: &mut S, sin
 fn run_all<K: Sink>(alloc: Global, lists: &[Flush], store: &mut Store, sink: &mut K) -> u8
     requires formed { list_all is_formed lists.now ≡ true }
     requires fitting { each_fits (memory_of store.old) lists.now ≡ true }
-    requires small { AllSmall lists.now }
+    requires sized { list_all is_sized lists.now ≡ true }
     requires few { length lists.now ≤ 4_194_304 }
     requires counts { CountsBelow (2 ^ 59) store.old }
     ensures ended { Ended 0 result (K.written sink.old) (K.written sink.new) (lists_text (memory_of store.old) lists.now) }

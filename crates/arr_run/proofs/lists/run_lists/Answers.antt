@@ -5,9 +5,12 @@ use Rattle.arr_elab.specs.Steps.{printed}
 use Rattle.arr_record.specs.Runs.{after_list}
 use Rattle.arr_run.specs.Texts.{array_text}
 use Rattle.arr_run.specs.Lists.{Wrote, lists_text, memory_of}
-use Rattle.arr_run.proofs.Turns.{Turn, risen, turn}
+use Rattle.arr_run.proofs.Turns.{Turn, risen, short_list, turn}
 use Rattle.arr_run.proofs.Writes.{wrote_part}
 use Rattle.arr_run.proofs.lists.run_lists.Goals as goal
+
+pub run_list-requires-clause-few : goal.run_list-requires-clause-few
+run_list-requires-clause-few g c = short_list c.args.lists.now c.loop-list.list-index c.ops.result.now c.list-item.result c.loop-list-test.true c.ops.ensures c.list-item.is c.requires.sized
 
 pub returns-in_err-run_list-clause-wrote : goal.returns-in_err-run_list-clause-wrote
 returns-in_err-run_list-clause-wrote g c =

@@ -1,0 +1,92 @@
+//! The program, run on bytes, for the tests.
+
+ghost use Rattle.std.specs.Prelude.{◌<◌};
+
+use arr_io::{MemorySink, MemorySource, NoMemory, SureSource};
+use arr_run::serve;
+use arr_store::Store;
+use std::alloc::Global;
+use std::process::Abort;
+
+/// A script, and what the program writes when it runs it.
+pub(crate) type Case = (&'static str, &'static str);
+
+/// What a run answers, and how many bytes it loaded and stored and how many buffers it made.
+#[derive(Debug, Drop)]
+pub(crate) struct Ran {
+    pub(crate) status: u8,
+    pub(crate) written: Vec<u8>,
+    pub(crate) loads: u64,
+    pub(crate) stores: u64,
+    pub(crate) made: u64,
+}
+
+/// A source of these bytes, which come `piece` at a time; the call with the number `fails` fails, none where it is 0.
+pub(crate) fn source(
+    alloc: Global,
+    bytes: &[u8],
+    piece: usize,
+    fails: u64,
+) -> Result<MemorySource, NoMemory>
+    requires { 0 < piece }
+{
+    Ok(MemorySource {
+        bytes: bytes.to_vec(alloc)?,
+        at: 0,
+        piece,
+        calls: 0,
+        fails: vec![in alloc; fails]?,
+        failed: 0,
+    })
+}
+
+/// Runs the program with a source and a sink that fail at these calls, none where it is 0.
+pub(crate) fn run(
+    alloc: Global,
+    words: &[&str],
+    script: &[u8],
+    read_fails: u64,
+    piece: usize,
+    write_fails: u64,
+) -> Result<Ran, NoMemory>
+    requires { 0 < piece }
+{
+    let mut texts = Vec::new(alloc);
+    for word in words {
+        texts.push(String::from_str(alloc, word)?)?;
+    }
+    let mut store = Store::new(alloc)?;
+    let mut script = source(alloc, script, piece, read_fails)?;
+    let mut proof = SureSource { bytes: &[] };
+    let mut sink = MemorySink::new(alloc, 1_000_000, piece, vec![in alloc; write_fails]?)?;
+    let status = serve(
+        alloc,
+        &texts,
+        &mut store,
+        &mut script,
+        &mut proof,
+        &mut sink,
+    );
+    let MemorySink { bytes, .. } = sink;
+    Ok(Ran {
+        status,
+        written: bytes,
+        loads: store.loads(),
+        stores: store.stores(),
+        made: store.made(),
+    })
+}
+
+/// Whether the program, run with `run` and ample memory, answers this status and these bytes.
+pub(crate) fn answers(
+    rt: &impl Abort,
+    alloc: Global,
+    script: &str,
+    status: u8,
+    text: &str,
+) -> Result<(), NoMemory> {
+    let ran = run(alloc, &["run"], script.as_bytes(), 0, 4096, 0)?;
+    assert_eq!(rt; ran.status, status, "{script}");
+    assert_eq!(rt; ran.written.as_slice(), text.as_bytes(), "{script}");
+    Ok(())
+}
