@@ -1,6 +1,6 @@
 -- What an expression stands for, and what it records, by its outermost form. Arguments are evaluated from left to right, then the form
 -- itself; the first refusal is the script's.
-use Rattle.std.specs.Prelude.{ℕ, ℤ, pos, List, [], ◌∷◌, Bool, true, false, not, ◌&&◌, ◌==◌, nat_lt, length, map, get_or, if◌then◌else◌, Option, Some, None, unwrap_or}
+use Rattle.std.specs.Prelude.{ℕ, pos, List, [], ◌∷◌, Bool, true, false, not, ◌==◌, nat_lt, length, map, get_or, if◌then◌else◌, Option, Some, None, unwrap_or}
 use Rattle.arr_num.specs.declared.elem.Elem.{Elem}
 use Rattle.arr_num.specs.declared.elem.Elem.TheVariants as elem
 use Rattle.arr_num.specs.declared.code.Code.{Code}
@@ -9,7 +9,6 @@ use Rattle.arr_num.specs.Numbers.{in_type, wrap}
 use Rattle.arr_num.specs.Kinds.{is_reduction}
 use Rattle.arr_ops.specs.Formed.{same_elem}
 use Rattle.arr_view.specs.Strided.{Strided}
-use Rattle.arr_view.specs.Views.{positions}
 use Rattle.arr_ops.specs.declared.op.Op.{Op}
 use Rattle.arr_ops.specs.declared.op.Operand.{Operand}
 use Rattle.arr_ops.specs.declared.op.Operand.TheVariants as operand
@@ -31,7 +30,7 @@ use Rattle.arr_elab.specs.declared.value.Value.TheVariants as value
 use Rattle.arr_elab.specs.declared.value.Pending.{Pending}
 use Rattle.arr_elab.specs.declared.value.Prepared.{Prepared}
 use Rattle.arr_elab.specs.declared.value.Prepared.TheVariants.{Ready, Open}
-use Rattle.arr_elab.specs.State.{Reading, State, ◌>>=◌, ◌>>◌, pure, refuse, require, ruled, known, act, fresh, stands_for}
+use Rattle.arr_elab.specs.State.{Reading, ◌>>=◌, ◌>>◌, pure, refuse, require, ruled, known, act, fresh, stands_for}
 use Rattle.arr_elab.specs.Codes.{elem_of, binary_code, unary_code, fold_code, result_type, spelled}
 
 -- ---- operations

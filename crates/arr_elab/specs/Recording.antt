@@ -1,5 +1,5 @@
 -- What the steps of an accepted script keep to: each operation is lawful and names live bases alone, and a creator makes the next base.
-use Rattle.std.specs.Prelude.{ℕ, List, [], ◌∷◌, ◌++◌, Bool, true, not, ◌&&◌, ◌||◌, ◌==◌, nat_lt, nat_le, length, map, get_or, cond, Option, Some, None, is_some, is_none}
+use Rattle.std.specs.Prelude.{ℕ, List, [], ◌∷◌, ◌++◌, Bool, not, ◌&&◌, ◌||◌, ◌==◌, nat_lt, nat_le, length, map, get_or, cond, Option, Some, None, is_some, is_none}
 use Rattle.std.specs.List.{list_all, list_any, filter}
 use Rattle.std.specs.Option.{option_and_then}
 use Rattle.arr_num.specs.declared.elem.Elem.{Elem}

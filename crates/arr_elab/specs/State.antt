@@ -1,6 +1,5 @@
 -- What is known while a script is read, and steps that add to it or refuse the script.
 use Rattle.std.specs.Prelude.{ℕ, suc, ◌+◌, List, [], ◌∷◌, ◌++◌, Bool, false, ◌||◌, ◌==◌, nat_lt, nat_le, length, cond, if◌then◌else◌, Option, Some, None, is_some, Result, Ok, Err}
-use Rattle.std.specs.List.{count_by}
 use Rattle.std.specs.Str.{bytes_eq}
 use Rattle.arr_view.specs.Views.{positions, whole_view}
 use Rattle.arr_view.specs.Strided.{Strided}
@@ -13,7 +12,7 @@ use Rattle.arr_syntax.specs.declared.refusal.Kind.TheVariants as kind
 use Rattle.arr_syntax.specs.declared.refusal.Refusal.{Refusal}
 use Rattle.arr_elab.specs.declared.value.Array.{Array}
 use Rattle.arr_elab.specs.declared.step.Step.{Step}
-use Rattle.arr_elab.specs.declared.step.Step.TheVariants.{Act, Name}
+use Rattle.arr_elab.specs.declared.step.Step.TheVariants.{Act}
 
 -- Each name that was ever bound, in the order of first sight, with the array that it stands for, or none after `del`.
 abbrev pub Names : Type 0
