@@ -1,5 +1,5 @@
 //! The store: buffers by base, and what passed through them.
-ghost use Rattle.std.specs.Prelude.{◌≡◌, ◌+◌, ◌-◌, ◌<◌, ◌≤◌, ◌^◌, ◌++◌, IsTrue, IfOk, OnOk, OnErr, IsSome, Some, None, length, replicate};
+ghost use Rattle.std.specs.Prelude.{ℕ, ◌≡◌, ◌+◌, ◌-◌, ◌<◌, ◌≤◌, ◌^◌, ◌++◌, IsTrue, IfOk, OnOk, OnErr, IsSome, Some, None, length, replicate};
 ghost use Rattle.std.specs.FinMap as finite;
 ghost use Rattle.arr_store.specs.Cells.{assigned, blank, number_at, size_at, takes, width_at, with_number};
 ghost use Rattle.arr_store.specs.Stored.{IsLawful, cells};
@@ -47,7 +47,8 @@ impl Model for Store {
 impl Store {
     /// A store with no base, whose counters are 0 (docs/PLANS.md, "The store"). An Err is want of memory.
     pub fn new(alloc: Global) -> Result<Store, NoMemory>
-        ensures { IfOk result (λ s. s ≡ record { bases = finite.empty; loads = 0; stores = 0; made = 0 }) }
+        ensures value { IfOk result (λ s. s ≡ record { bases = finite.empty; loads = 0; stores = 0; made = 0 }) }
+        ensures empty { IfOk result (λ s. (b : ℕ) → cells s b ≡ None) }
     {
         Ok(Store {
             index: Vec::new(alloc),
