@@ -63,11 +63,12 @@ fn elem_name(elem: Elem) -> &'static str {
 fn push_view(alloc: Global, text: &mut String, view: &View, elem: Elem) -> Result<(), AllocError> {
     let head = format!(in alloc; "b{}:{}@{}[", view.base(), elem_name(elem), view.start())?;
     text.push_str(&head)?;
-    let mut comma = "";
-    for (length, stride) in view.shape().iter().zip(view.strides()) {
-        let dimension = format!(in alloc; "{comma}{length}:{stride}")?;
+    for (at, (length, stride)) in view.shape().iter().zip(view.strides()).enumerate() {
+        if at > 0 {
+            text.push_str(",")?;
+        }
+        let dimension = format!(in alloc; "{length}:{stride}")?;
         text.push_str(&dimension)?;
-        comma = ",";
     }
     text.push_str("]")
 }
@@ -117,7 +118,11 @@ pub(crate) fn push_op(alloc: Global, text: &mut String, op: &Op) -> Result<(), A
 }
 
 /// The steps of a script, which must be one.
-pub(crate) fn steps_of(rt: &impl Abort, alloc: Global, script: &str) -> Result<Vec<Step>, AllocError>
+pub(crate) fn steps_of(
+    rt: &impl Abort,
+    alloc: Global,
+    script: &str,
+) -> Result<Vec<Step>, AllocError>
     ensures { IfOk result (λ steps. is_recording steps.items ≡ true) }
 {
     let bytes = script.as_bytes();
@@ -132,6 +137,10 @@ pub(crate) fn steps_of(rt: &impl Abort, alloc: Global, script: &str) -> Result<V
 }
 
 /// The lists of a script, as they are recorded.
-pub(crate) fn lists_of(rt: &impl Abort, alloc: Global, script: &str) -> Result<Vec<Flush>, AllocError> {
+pub(crate) fn lists_of(
+    rt: &impl Abort,
+    alloc: Global,
+    script: &str,
+) -> Result<Vec<Flush>, AllocError> {
     flushes(alloc, &steps_of(rt, alloc, script)?)
 }

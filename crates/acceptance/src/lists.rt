@@ -78,13 +78,20 @@ fn step_name(step: &Step) -> &'static str {
 #[test]
 fn statements_become_steps(rt: HostRuntime) -> Result<(), Fail> {
     let alloc = rt.alloc();
-    let steps = steps_of(&rt, alloc, "a = range(2)\nb = a\nflush\ndel a\nb[:] = b + b\n")?;
+    let steps = steps_of(
+        &rt,
+        alloc,
+        "a = range(2)\nb = a\nflush\ndel a\nb[:] = b + b\n",
+    )?;
     let mut names = String::new(alloc);
     for step in &steps {
         names.push_str(step_name(step))?;
         names.push_str(" ")?;
     }
-    assert_eq!(rt; names.as_str(), "act name done name done cut done forget done act done ");
+    assert_eq!(rt;
+        names.as_str(),
+        "act name done name done cut done forget done act done "
+    );
     Ok(())
 }
 

@@ -106,7 +106,7 @@ static REWRITTEN_5: [Case; 15] = [
 
 #[rattlefmt::skip]
 static REWRITTEN_6: [Case; 4] = [
-    ("x = range(4)\ny = x * 2\nz = y + 1\ndel z\ndel y\ndel x\n", "\n"),
+    ("x = range(4)\ny = x * 2\nz = y + 1\ndel z\ndel y\ndel x\n", ""),
     ("x = range(4)\ny = x * 0 + 0\nprint y\n", "IDENTITY +b2:i64@0[4:1] 0\nSYNC b2:i64@0[4:1] slot=1\nFREE b2\n"),
     ("a = range(3)\nb = a + 1 + 2\nprint b\n", "RANGE +b0:i64@0[3:1]\nADD +b2:i64@0[3:1] b0:i64@0[3:1] 3\nSYNC b2:i64@0[3:1] slot=1\nFREE b0\nFREE b2\n"),
     ("g = full([4,4], 0, i64)\ng[0:1,:] = 100\nc = (g[0:2,1:3] + g[2:4,1:3]) / 1\ng[1:3,1:3] = c\nprint g\n", "IDENTITY +b0:i64@0[4:4,4:1] 0\nIDENTITY b0:i64@0[1:0,4:1] 100\nADD +b1:i64@0[2:2,2:1] b0:i64@1[2:4,2:1] b0:i64@9[2:4,2:1]\nIDENTITY +b2:i64@0[2:2,2:1] b1:i64@0[2:2,2:1]\nFREE b1\nIDENTITY b0:i64@5[2:4,2:1] b2:i64@0[2:2,2:1]\nSYNC b0:i64@0[4:4,4:1] slot=1\nFREE b0\nFREE b2\n"),

@@ -155,7 +155,13 @@ fn scripts_print_their_arrays(rt: HostRuntime) -> Result<(), Fail> {
     let alloc = rt.alloc();
     answers(&rt, alloc, "", 0, "")?;
     answers(&rt, alloc, "\n\n# nothing\n \t\r\n", 0, "")?;
-    answers(&rt, alloc, "a=range ( 0003 ) # three\n\tprint a", 0, "i64 3\n0 1 2\n")?;
+    answers(
+        &rt,
+        alloc,
+        "a=range ( 0003 ) # three\n\tprint a",
+        0,
+        "i64 3\n0 1 2\n",
+    )?;
     all_answer(&rt, alloc, 0, &WORKED)?;
     all_answer(&rt, alloc, 0, &SHAPED)?;
     Ok(())
