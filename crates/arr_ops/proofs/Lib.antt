@@ -17,3 +17,7 @@ pub mod Merged
 pub mod Fits
 pub mod FitsLaw
 pub mod Serving
+pub mod Members
+pub mod Ordering
+pub mod Legality
+pub mod Orders
