@@ -11,10 +11,12 @@
 //!
 //! The definitions, in `specs/`: `Ops` (views of an operation, dependence, fusibility), `Memory` (what a step does), `Formed` and `Fits`
 //! (which operations, lists and memories go together), `Plans` (legal plans), `Costs`, `Traffic` (what a block loads, stores and keeps),
-//! `Order` (partitions, and the order of one), `Laws`, and `Examples`, computed. `docs/PLANS.md` states the same rules in words.
+//! `Order` (partitions, and the order of one), `Gathers` (reading and writing by an index), `Laws`, and `Examples`, computed.
+//! `docs/PLANS.md` states the same rules in words.
 #![tactic(auto)]
 
 mod formed;
+mod gather;
 mod laws;
 mod list;
 mod op;
@@ -22,6 +24,7 @@ mod plan;
 mod shapes;
 
 pub use formed::well_formed;
+pub use gather::{Gather, Scatter};
 pub use laws::{
     blocks_fit, independent_operations_commute, merging_saves, numbers_stay_typed,
     orders_are_found, orders_are_legal, plans_keep_memory,
