@@ -1,14 +1,15 @@
 -- The least and the greatest element of a view, one dimension after another.
 use Rattle.std.proofs.Common.{◌≡◌, ℕ, ◌+◌, ◌-◌, ◌<◌, ◌≤◌, ℤ, pos, negsuc, ◌+ℤ◌, ◌≤ℤ◌, ◌<ℤ◌, List, [], ◌∷◌, Bool, true, false, length, map, drop, get_or, refl, ap, ap₂, sym, ◌∙◌, arith, inl, inr, suc, subst, zero}
-use Rattle.std.specs.Prelude.{nat_le, nat_eq, ◌||◌}
+use Rattle.std.specs.Prelude.{nat_le, nat_lt, nat_eq, ◌||◌, ◌==◌}
 use Rattle.std.specs.List.{list_all, list_any}
 use Rattle.std.proofs.lemmas.Int.{ints}
-use Rattle.std.proofs.lemmas.Bool.{and_parts, and_from, eq-eqb, leb-true, leb-false, le-leb, false≢true}
+use Rattle.std.proofs.lemmas.Bool.{and_from, and_parts, eq-eqb, eqb-true, false≢true, le-leb, leb-false, leb-true, lt-ltb, ltb-true}
 use Rattle.std.proofs.lemmas.List.{drop_more, drop_all}
 use Rattle.std.proofs.lemmas.List.Folds.{list_any-append}
 use Rattle.arr_view.specs.Strided.{Strided}
 use Rattle.arr_view.specs.Views.{at_steps, elements, has, lies, is_place, is_view, places, to_place}
 use Rattle.arr_view.proofs.Checks.{lawful}
+use Rattle.arr_view.proofs.Known.{same_tests}
 use Rattle.arr_view.proofs.Places.{Inside, Span, Turned, ends_high, ends_low, in_steps, length_at, out_steps, reach, span_start, span_turns, steps, steps_down, steps_is, steps_up}
 
 -- ---- tests that hold on one side
@@ -222,3 +223,32 @@ end_is v i end n done same found =
 pub ends_are : (v : Strided) (i : ℕ) (low high : ℤ) (l h : ℕ) → length v.lengths ≤ i → Ends v.lengths v.strides (pos v.start) i low high → low ≡ pos l → high ≡ pos h
     → (has (elements v) l ≡ true) × (has (elements v) h ≡ true)
 ends_are v i low high l h done ends low_is high_is = (end_is v i low l done low_is ends.lowest, end_is v i high h done high_is ends.highest)
+
+-- ---- what the greatest element tells
+
+-- an element of a list passes what all pass
+pub passes : (q : ℕ → Bool) (ys : List ℕ) (x : ℕ) → list_all q ys ≡ true → has ys x ≡ true → q x ≡ true
+passes q [] x all h = absurd (false≢true h)
+passes q (y ∷ ys) x all h =
+    let parts = and_parts (q y) (list_all q ys) all in
+    elim (x == y) as (λ b. (x == y) ≡ b → q x ≡ true) [
+      | true ↦ λ e. ap q (eqb-true x y e) ∙ parts.0
+      | false ↦ λ e. passes q ys x parts.1 (sym (ap (λ b. b || has ys x) e) ∙ h)
+    ] refl
+
+-- what follows from one test holds of all that pass it
+pub weaker : (p q : ℕ → Bool) (xs : List ℕ) → ((x : ℕ) → p x ≡ true → q x ≡ true) → list_all p xs ≡ true → list_all q xs ≡ true
+weaker p q [] h all = refl
+weaker p q (x ∷ xs) h all =
+    let parts = and_parts (p x) (list_all p xs) all in
+    and_from (q x) (list_all q xs) (h x parts.0) (weaker p q xs h parts.1)
+
+-- all lie below a number exactly where the greatest does
+pub all_below : (xs : List ℕ) (least greatest count : ℕ) → list_all (lies least greatest) xs ≡ true → has xs greatest ≡ true → nat_lt greatest count ≡ list_all (λ e. nat_lt e count) xs
+all_below xs least greatest count between there =
+    same_tests (nat_lt greatest count) (list_all (λ e. nat_lt e count) xs)
+    (λ low. weaker (lies least greatest) (λ e. nat_lt e count) xs (λ e in_range.
+    let high : e ≤ greatest = leb-true e greatest (and_parts (nat_le least e) (nat_le e greatest) in_range).1 in
+    let below : greatest < count = ltb-true greatest count low in
+    lt-ltb e count (omega arith)) between)
+    (λ all. passes (λ e. nat_lt e count) xs greatest all there)

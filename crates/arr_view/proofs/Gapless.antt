@@ -1,5 +1,5 @@
 -- A view without a gap: its strides are those of its shape in row-major order.
-use Rattle.std.proofs.Common.{◌≡◌, ℕ, ℤ, pos, negsuc, List, [], ◌∷◌, Bool, true, false, map, refl, ap, sym, ◌∙◌}
+use Rattle.std.proofs.Common.{◌≡◌, ℕ, ℤ, pos, negsuc, List, [], ◌∷◌, true, map, refl, ap, sym, ◌∙◌}
 use Rattle.std.specs.List.{list_all, range_with_len}
 use Rattle.std.specs.Cmp.Lexicographic.{pointwise}
 use Rattle.std.specs.Cmp.Rules.{signed_items}
@@ -9,7 +9,7 @@ use Rattle.arr_view.specs.Strided.{Strided}
 use Rattle.arr_view.specs.Views.{elements, is_consecutive, is_place, is_view, places, positions, same_lists, strides_kept, to_place, whole_strides}
 use Rattle.arr_view.proofs.Checks.{lawful}
 use Rattle.arr_view.proofs.Strides.{keeps, kept_whole, length-whole_strides, whole_places}
-use Rattle.arr_view.proofs.Known.{same_lists-same, same_lists-true, same_way}
+use Rattle.arr_view.proofs.Known.{same_lists-same, same_lists-true, same_tests, same_way}
 
 numbers_placed : (zs : List ℤ) (xs : List ℕ) → list_all is_place zs ≡ true → map to_place zs ≡ xs → zs ≡ map pos xs
 numbers_placed [] xs inside e = ap (map pos) e
@@ -37,11 +37,6 @@ in_row v e = ap (λ ss. map to_place (places v.lengths ss (pos v.start))) e ∙ 
 
 consecutive_row : (v : Strided) → v.strides ≡ whole_strides v.lengths → is_consecutive v ≡ true
 consecutive_row v e = ap (λ xs. same_lists xs (range_with_len v.start (positions v.lengths))) (in_row v e) ∙ same_lists-same (range_with_len v.start (positions v.lengths))
-
-pub same_tests : (a b : Bool) → (a ≡ true → b ≡ true) → (b ≡ true → a ≡ true) → a ≡ b
-same_tests true b f g = sym (f refl)
-same_tests false true f g = g refl
-same_tests false false f g = refl
 
 pub strides_decide : (v : Strided) (ts : List ℤ) → is_view v ≡ true → ts ≡ whole_strides v.lengths → pointwise int_eq v.strides ts ≡ is_consecutive v
 strides_decide v ts law e =
