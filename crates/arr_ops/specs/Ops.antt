@@ -33,6 +33,10 @@ freed op = option_to_list op.frees
 abbrev pub named : Op → List ℕ
 named op = map (λ (v : Strided). v.base) (views op) ++ freed op
 
+-- the same with this slot, or with none
+abbrev pub at_slot : Op → Option ℕ → Op
+at_slot op slot = record op { slot = slot }
+
 -- some view of the first list and some view of the second pass
 abbrev pub some_pair : (Strided → Strided → Bool) → List Strided → List Strided → Bool
 some_pair test vs ws = list_any (λ v. list_any (test v) ws) vs

@@ -97,7 +97,7 @@ fn reduces(op: &Op) -> bool
             op.second.is_none()
                 && op.slot.is_none()
                 && op.frees.is_none()
-                && same_elem(op.to, op.from)
+                && op.to == op.from
                 && usize::from(axis) < input.shape().len()
                 && lacks_axis(out.shape(), input.shape(), usize::from(axis))
         }
@@ -114,7 +114,7 @@ fn scans(op: &Op) -> bool
             op.second.is_none()
                 && op.slot.is_none()
                 && op.frees.is_none()
-                && same_elem(op.to, op.from)
+                && op.to == op.from
                 && usize::from(axis) < input.shape().len()
                 && same_lists(out.shape(), input.shape())
         }
@@ -142,12 +142,6 @@ fn same_lists(left: &[u32], right: &[u32]) -> bool
     left == right
 }
 
-pub(crate) fn same_elem(left: Elem, right: Elem) -> bool
-    ensures { result ≡ same_elem left right }
-{
-    left == right
-}
-
 /// Whether the types are those of the code.
 fn types_kept(op: &Op) -> bool
     ensures { result ≡ types_kept op.now.code op.now }
@@ -158,9 +152,9 @@ fn types_kept(op: &Op) -> bool
         | Code::Less
         | Code::LessEqual
         | Code::Greater
-        | Code::GreaterEqual => same_elem(op.to, Elem::U8),
-        Code::Identity => is_array(&op.first) || same_elem(op.to, op.from),
-        _ => same_elem(op.to, op.from),
+        | Code::GreaterEqual => op.to == Elem::U8,
+        Code::Identity => is_array(&op.first) || op.to == op.from,
+        _ => op.to == op.from,
     }
 }
 

@@ -6,7 +6,6 @@ ghost use Rattle.arr_view.specs.Views.{elements, has, positions};
 ghost use Rattle.arr_ops.specs.Ops.{named, view_of};
 ghost use Rattle.arr_ops.specs.Formed.{all_pairs, each_inside, each_typed, inside_made, is_formed, may_precede, same_elem, same_types, slots_ascend, typed, well_formed};
 
-use crate::formed::same_elem;
 use crate::{Op, Operand, well_formed};
 use arr_num::Elem;
 use arr_view::View;
@@ -159,10 +158,10 @@ fn freed_agrees(frees: Option<u32>, ty: Elem, op: &Op) -> bool
 fn agrees(base: u32, ty: Elem, op: &Op) -> bool
     ensures { result ≡ list_all (λ q. not (base == q.0) || same_elem ty q.1) (typed op.now) }
 {
-    out_typed(&op.out, base, same_elem(ty, op.to))
-        && operand_typed(&op.first, base, same_elem(ty, op.from))
-        && operand_typed(&op.second, base, same_elem(ty, op.from))
-        && (op.frees != Some(base) || same_elem(ty, op.to))
+    out_typed(&op.out, base, ty == op.to)
+        && operand_typed(&op.first, base, ty == op.from)
+        && operand_typed(&op.second, base, ty == op.from)
+        && (op.frees != Some(base) || ty == op.to)
 }
 
 fn out_typed(view: &Option<View>, base: u32, same: bool) -> bool
