@@ -3,6 +3,7 @@ use Rattle.std.specs.Prelude.{ℕ, suc, ℤ, ◌==◌, nat_lt, List, [], ◌∷�
 use Rattle.std.specs.List.{list_all, range_with_len}
 use Rattle.std.specs.Option.{option_to_list}
 use Rattle.arr_view.specs.Strided.{Strided}
+pub use Rattle.arr_view.specs.Views.{dropped_axis}
 use Rattle.arr_view.specs.Views.{elements, positions, has, same_lists, is_view, repeats}
 use Rattle.arr_ops.specs.Ops.{at_slot, views, inputs, outputs, freed, named}
 use Rattle.arr_num.specs.Kinds.{Kind, Binary, Unary, Counting, Reduction, Scan, Ending, Printing, kind}
@@ -22,11 +23,6 @@ use Rattle.arr_num.specs.Types.{types_match}
 -- its elements are those of a whole base, in order
 abbrev pub is_whole : Strided → Bool
 is_whole v = same_lists (elements v) (range_with_len 0 (positions v.lengths))
-
--- the shape without its axis, or [1] where that is all it has
-abbrev pub dropped_axis : ℕ → List ℕ → List ℕ
-dropped_axis axis (n ∷ []) = 1 ∷ []
-dropped_axis axis lengths = take axis lengths ++ drop (suc axis) lengths
 
 abbrev pub is_array : Option Operand → Bool
 is_array (Some (Array v)) = true
