@@ -7,6 +7,7 @@ pub mod Commute
 pub mod Apart
 pub mod Plans
 pub mod Lengths
+pub mod Decided
 pub mod Typed
 pub mod Picked
 pub mod Alike
