@@ -7,6 +7,7 @@ pub mod Costs
 pub mod Traffic
 pub mod Order
 pub mod Laws
+pub mod Gathers
 pub use Rattle.arr_num.specs.Numbers
 pub use Rattle.arr_num.specs.Kinds
 pub use Rattle.arr_view.specs.Strided

@@ -10,10 +10,11 @@
 //!
 //! The definitions, in `specs/`: `Ops` (views of an operation, dependence, fusibility), `Memory` (what a step does), `Formed` and `Fits`
 //! (which operations, lists and memories go together), `Plans` (legal plans), `Costs`, `Traffic` (what a block loads, stores and keeps),
-//! `Order` (the order of a partition), `Laws`, and `Examples`, computed. `docs/PLANS.md` states the same rules in words.
+//! `Order` (the order of a partition), `Gathers` (reading and writing by an index), `Laws`, and `Examples`, computed. `docs/PLANS.md` states the same rules in words.
 #![tactic(auto)]
 
 mod formed;
+mod gather;
 mod laws;
 mod list;
 mod op;
@@ -21,6 +22,7 @@ mod plan;
 mod shapes;
 
 pub use formed::well_formed;
+pub use gather::{Gather, Scatter};
 pub use laws::{
     independent_operations_commute, merging_saves, numbers_stay_typed, plans_keep_memory,
 };
