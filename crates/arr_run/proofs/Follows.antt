@@ -4,11 +4,10 @@ use Rattle.std.specs.List.{flat_map}
 use Rattle.std.specs.Io.KnownBytes.{Appends}
 use Rattle.arr_ops.specs.declared.op.Op.{Op}
 use Rattle.arr_ops.specs.Memory.{Slot}
-use Rattle.arr_elab.specs.declared.step.Step.{Step}
 use Rattle.arr_elab.specs.Steps.{eager_arrays, slot_count}
 use Rattle.arr_store.specs.Stored.{Stored}
 use Rattle.arr_run.specs.declared.words.Command.TheVariants.{Run}
-use Rattle.arr_run.specs.Answers.{Answer, Ends, Given, IsAccepted, Leaves, Serves, answer_status, answer_text, done, refused}
+use Rattle.arr_run.specs.Answers.{Answer, Ends, Given, Leaves, answer_status, answer_text, done, refused}
 use Rattle.arr_run.specs.Laws.{FaultsAreCounted, PrintsArrays, PrintsEagerly, RefusalKeepsStore, RunIsKnown}
 use Rattle.arr_run.specs.Pieces.{Pieces, Segment, plain, segment_text, segments_from}
 use Rattle.arr_run.specs.Texts.{array_text}
