@@ -76,8 +76,8 @@ impl Elem {
         value.rem_euclid(self.size()) as u64
     }
 
-    /// The count of a shift, modulo the type's bits.
-    pub(crate) fn shift(self, count: i128) -> u32
+    /// The count by which a shift moves bits: modulo the type's bits (docs/LANGUAGE.md, "Opcodes").
+    pub fn shift(self, count: i128) -> u32
         ensures { result ≡ shift self count }
     {
         count.rem_euclid(8 * self.width() as i128) as u32

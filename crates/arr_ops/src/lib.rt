@@ -30,6 +30,6 @@ pub use laws::{
     orders_are_found, orders_are_legal, plans_keep_memory,
 };
 pub use list::list_formed;
-pub use op::{Op, Operand};
+pub use op::{Op, Operand, copied_operand, copied_view};
 pub use plan::Plan;
 pub use shapes::{inputs, output, walked_shape, weight};

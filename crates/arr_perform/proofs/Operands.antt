@@ -23,13 +23,13 @@ use Rattle.arr_ops.specs.declared.op.Operand.TheVariants.{Array, Number}
 use Rattle.arr_ops.specs.Ops.{view_of, inputs, outputs, freed, creates}
 use Rattle.arr_ops.specs.Fits.{Need, needs, meets_need, op_fits}
 use Rattle.arr_ops.specs.Formed.{well_formed, makes_whole, writes_once, kind_kept, operands_kept, types_kept, numbers_kept, numbers_of, elementwise, is_array, same_elem, is_whole}
-use Rattle.arr_ops.specs.Memory.{Memory, Cell, read, operand, first_numbers}
+use Rattle.arr_ops.specs.Memory.{Memory, Cell, read, operand, first_numbers, without_slots}
 use Rattle.arr_ops.proofs.Pairs.{All_weaker}
 use Rattle.arr_ops.proofs.Tests.{both_left, both_right, all_of, test_all}
 use Rattle.arr_ops.proofs.Spots.{all_left, all_right, all_mapped, all_two, same_elem_is}
 use Rattle.arr_ops.proofs.Typed.{AllIn, CellFits, read_in, zero_in}
 use Rattle.arr_store.proofs.Lawful.{both}
-use Rattle.arr_perform.specs.Performed.{lie_inside, bare}
+use Rattle.arr_perform.specs.Performed.{lie_inside}
 use Rattle.arr_perform.proofs.Rows.{same_in}
 
 -- ---- needs
@@ -64,7 +64,7 @@ if_not : (a b : Bool) → a ≡ false → (a || b) ≡ true → b ≡ true
 if_not true b e h = absurd (true≢false e)
 if_not false b e h = h
 
-module _ (m : Memory) (op : Op) (well : well_formed op ≡ true) (fit : op_fits (bare m) (op ∷ []) op ≡ true) where
+module _ (m : Memory) (op : Op) (well : well_formed op ≡ true) (fit : op_fits (without_slots m) (op ∷ []) op ≡ true) where
   all_met : AllByRecursion (λ n. met m op n ≡ true) (needs op)
   all_met = all_of (met m op) (needs op) (both_left (list_all (met m op) (needs op)) _ fit)
 

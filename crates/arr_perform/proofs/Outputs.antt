@@ -15,13 +15,13 @@ use Rattle.arr_ops.specs.declared.op.Op.{Op}
 use Rattle.arr_ops.specs.Ops.{inputs, outputs, creates}
 use Rattle.arr_ops.specs.Fits.{Need, needs, meets_need, op_fits}
 use Rattle.arr_ops.specs.Formed.{well_formed, makes_whole, writes_once, kind_kept, operands_kept, elementwise, plain, along_axis, dropped_axis, is_array, is_whole}
-use Rattle.arr_ops.specs.Memory.{Memory, Cell, Slot, Change, Keeps, Drops, Becomes, Writes, changed, change, output_change, write, put}
+use Rattle.arr_ops.specs.Memory.{Memory, Cell, Slot, Change, Keeps, Drops, Becomes, Writes, changed, change, output_change, write, put, without_slots}
 use Rattle.arr_ops.proofs.Tests.{both_left, both_right, same_from_test}
 use Rattle.arr_ops.proofs.Spots.{all_left, none_from, views_of}
 use Rattle.arr_ops.proofs.Parts.{length-elements}
 use Rattle.arr_store.specs.Cells.{assigned, blank, takes}
 use Rattle.arr_store.proofs.Lawful.{both}
-use Rattle.arr_perform.specs.Performed.{lie_inside, bare, written}
+use Rattle.arr_perform.specs.Performed.{lie_inside, written}
 use Rattle.arr_perform.proofs.Moving.{at_same, twice}
 use Rattle.arr_perform.proofs.Operands.{output_need, outputs_met, met_inside, met_typed}
 
@@ -68,7 +68,7 @@ holds_if : (a b : Bool) → a ≡ true → (not a || b) ≡ true → b ≡ true
 holds_if true b e h = h
 holds_if false b e h = absurd (false≢true e)
 
-module _ (m : Memory) (op : Op) (o : Strided) (well : well_formed op ≡ true) (out : op.out ≡ Some o) (fit : op_fits (bare m) (op ∷ []) op ≡ true) where
+module _ (m : Memory) (op : Op) (o : Strided) (well : well_formed op ≡ true) (out : op.out ≡ Some o) (fit : op_fits (without_slots m) (op ∷ []) op ≡ true) where
   pub out_view : is_view o ≡ true
   out_view = (subst (λ x. AllByRecursion (λ v. is_view v ≡ true) (option_to_list x)) out (all_left (λ v. is_view v ≡ true) (outputs op) (inputs op) (views_of op well))).0
 

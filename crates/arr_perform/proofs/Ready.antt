@@ -11,12 +11,12 @@ use Rattle.arr_ops.specs.declared.op.Op.{Op}
 use Rattle.arr_ops.specs.Ops.{creates, outputs}
 use Rattle.arr_ops.specs.Fits.{Need, fits, meets_need, needs, op_fits}
 use Rattle.arr_ops.specs.Formed.{is_formed, slot_numbers, well_formed}
-use Rattle.arr_ops.specs.Memory.{Cell, Memory, Slot, computed, eager, lengths_of, slot_after, step}
+use Rattle.arr_ops.specs.Memory.{Cell, Memory, Slot, computed, eager, lengths_of, slot_after, step, without_slots}
 use Rattle.arr_ops.proofs.Alike.{same_list}
 use Rattle.arr_ops.proofs.Independent.{same_elem_refl}
 use Rattle.arr_ops.proofs.Tests.{both_left, both_right, same_from_test}
 use Rattle.arr_store.specs.Slots.{blank_slot, blank_slots}
-use Rattle.arr_perform.specs.Performed.{bare, can_run_all, shows}
+use Rattle.arr_perform.specs.Performed.{can_run_all, shows}
 use Rattle.arr_perform.proofs.Performing.{bases_alike, computed_alike, with_slots}
 use Rattle.arr_perform.proofs.Alone.{EachFits, each_fits_alone}
 
@@ -93,7 +93,7 @@ blank_none (op ∷ ops) s h = none_more op.slot (blank_slot op) s (slot_numbers 
 
 -- ---- each operation can run
 
-fits_bare : (f g : Memory) (op : Op) → f.bases ≡ g.bases → fits g (op ∷ []) ≡ true → op_fits (bare f) (op ∷ []) op ≡ true
+fits_bare : (f g : Memory) (op : Op) → f.bases ≡ g.bases → fits g (op ∷ []) ≡ true → op_fits (without_slots f) (op ∷ []) op ≡ true
 fits_bare f g op e h =
     let needed : (ℕ → Option Cell) → Bool = λ bases. list_all (λ (n : Need). creates (op ∷ []) n.base || meets_need (bases n.base) n) (needs op) in
     let made : (ℕ → Option Cell) → Bool = λ bases. not op.makes || list_all (λ (o : Strided). is_none (bases o.base)) (outputs op) in

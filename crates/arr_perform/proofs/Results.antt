@@ -23,7 +23,7 @@ use Rattle.arr_ops.specs.declared.op.Operand.TheVariants.{Array, Number}
 use Rattle.arr_ops.specs.Ops.{view_of, inputs, outputs}
 use Rattle.arr_ops.specs.Fits.{meets_need, op_fits}
 use Rattle.arr_ops.specs.Formed.{well_formed, operands_kept, along_axis, dropped_axis, is_array, same_elem, same_shape}
-use Rattle.arr_ops.specs.Memory.{Memory, read, operand, first_numbers, zip_with, results, results_of, computed, lengths_of, out_lengths, or_zero}
+use Rattle.arr_ops.specs.Memory.{Memory, read, operand, first_numbers, zip_with, results, results_of, computed, lengths_of, out_lengths, or_zero, without_slots}
 use Rattle.arr_ops.proofs.Pairs.{All_weaker}
 use Rattle.arr_ops.proofs.Tests.{both_left, both_right, test_all}
 use Rattle.arr_ops.proofs.Spots.{Plain, plain_at, all_left, all_right, operands_of, types_of, same_elem_is}
@@ -32,7 +32,7 @@ use Rattle.arr_ops.proofs.Lengths.{positions_at}
 use Rattle.std.specs.FinMap as finite
 use Rattle.arr_store.specs.Stored.{Stored}
 use Rattle.arr_ops.specs.Ops.{keeps_bases}
-use Rattle.arr_perform.specs.Performed.{lie_inside, bare, memory}
+use Rattle.arr_perform.specs.Performed.{lie_inside, memory}
 use Rattle.arr_perform.specs.Folds.{sums_of, scans_of}
 use Rattle.arr_perform.proofs.Products.{factor, all_drop, all_take}
 use Rattle.arr_perform.proofs.Operands.{input_need, inputs_met, met_views, met_inside, met_typed, operand_in, length-operand, length-first, left_in, right_in, second_in, first_kept, types_matched, numbers_of_op, elementwise_of}
@@ -48,7 +48,7 @@ zipped Scan code t lengths axis xs ys h = absurd (false≢true h)
 zipped Ending code t lengths axis xs ys h = absurd (false≢true h)
 zipped Printing code t lengths axis xs ys h = absurd (false≢true h)
 
-module _ (m : Memory) (op : Op) (o : Strided) (well : well_formed op ≡ true) (code : is_element_wise op.code ≡ true) (out : op.out ≡ Some o) (fit : op_fits (bare m) (op ∷ []) op ≡ true) where
+module _ (m : Memory) (op : Op) (o : Strided) (well : well_formed op ≡ true) (code : is_element_wise op.code ≡ true) (out : op.out ≡ Some o) (fit : op_fits (without_slots m) (op ∷ []) op ≡ true) where
   plain : Plain op o
   plain = plain_at op o out well (elementwise_of (kind op.code) op code (operands_of op well))
 
@@ -131,7 +131,7 @@ below_kept Reduction op input axis h kept first at = axis_below op dropped_axis 
 below_kept Scan op input axis h kept first at = axis_below op (λ axis lengths. lengths) input axis kept first at
 below_kept _ op input axis h kept first at = absurd (false≢true h)
 
-module _ (m : Memory) (op : Op) (input : Strided) (axis : ℕ) (well : well_formed op ≡ true) (code : is_fold op.code ≡ true) (first : op.first ≡ Some (Array input)) (at : op.axis ≡ Some axis) (fit : op_fits (bare m) (op ∷ []) op ≡ true) where
+module _ (m : Memory) (op : Op) (input : Strided) (axis : ℕ) (well : well_formed op ≡ true) (code : is_fold op.code ≡ true) (first : op.first ≡ Some (Array input)) (at : op.axis ≡ Some axis) (fit : op_fits (without_slots m) (op ∷ []) op ≡ true) where
   input_met : meets_need (m.bases input.base) (input_need op input) ≡ true
   input_met =
       let all = all_left (λ (v : Strided). meets_need (m.bases v.base) (input_need op v) ≡ true) (view_of op.first) (view_of op.second) (inputs_met m op well fit) in

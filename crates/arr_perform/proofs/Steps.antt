@@ -12,7 +12,7 @@ use Rattle.arr_ops.specs.declared.op.Operand.TheVariants.{Array}
 use Rattle.arr_ops.specs.Ops.{inputs, outputs, view_of}
 use Rattle.arr_ops.specs.Fits.{meets_need, op_fits}
 use Rattle.arr_ops.specs.Formed.{well_formed, same_elem}
-use Rattle.arr_ops.specs.Memory.{Memory, Slot, step, computed, slot_after, read, operand, first_numbers, results, lengths_of, out_lengths, or_zero}
+use Rattle.arr_ops.specs.Memory.{Memory, Slot, step, computed, slot_after, read, operand, first_numbers, results, lengths_of, out_lengths, or_zero, without_slots}
 use Rattle.arr_ops.proofs.Tests.{both_left, both_right, same_from_test, test_all}
 use Rattle.arr_ops.proofs.Spots.{all_left, all_right, views_of, same_elem_is}
 use Rattle.arr_ops.proofs.Parts.{prints, length-elements}
@@ -20,7 +20,7 @@ use Rattle.arr_ops.proofs.Typed.{read_in}
 use Rattle.arr_num.specs.declared.elem.Elem.{Elem}
 use Rattle.arr_store.specs.Cells.{assigned}
 use Rattle.arr_store.specs.Slots.{slot_size, slot_takes}
-use Rattle.arr_perform.specs.Performed.{bare, shows, can_run, with_numbers}
+use Rattle.arr_perform.specs.Performed.{shows, can_run, with_numbers}
 use Rattle.arr_perform.proofs.Moving.{few_positions}
 use Rattle.arr_perform.proofs.Operands.{input_need, inputs_met, met_typed, length-read}
 
@@ -49,13 +49,13 @@ shows_of op v (Some s) first h =
     }
 
 module _ (m : Memory) (op : Op) (v : Strided) (k : ℕ) (well : well_formed op ≡ true) (code : kind op.code ≡ Printing) (first : op.first ≡ Some (Array v)) (slot : op.slot ≡ Some k) (runs : can_run m op ≡ true) where
-  fit : op_fits (bare m) (op ∷ []) op ≡ true
-  fit = both_left (op_fits (bare m) (op ∷ []) op) _ runs
+  fit : op_fits (without_slots m) (op ∷ []) op ≡ true
+  fit = both_left (op_fits (without_slots m) (op ∷ []) op) _ runs
 
   there : Shows op.from v.lengths (m.slots k)
   there =
       shows_of op v (m.slots k) first
-      (both_left (shows op (m.slots k)) true (ap (λ x. list_all (λ s. shows op (m.slots s)) (option_to_list x)) (sym slot) ∙ both_right (op_fits (bare m) (op ∷ []) op) _ runs))
+      (both_left (shows op (m.slots k)) true (ap (λ x. list_all (λ s. shows op (m.slots s)) (option_to_list x)) (sym slot) ∙ both_right (op_fits (without_slots m) (op ∷ []) op) _ runs))
 
   met : meets_need (m.bases v.base) (input_need op v) ≡ true
   met =

@@ -5,7 +5,7 @@ use Rattle.std.specs.Option.{option_to_list}
 use Rattle.arr_view.specs.Views.{positions, same_lists}
 use Rattle.arr_ops.specs.Formed.{same_elem}
 use Rattle.arr_ops.specs.Fits.{op_fits}
-use Rattle.arr_ops.specs.Memory.{Memory, Cell, Slot, Writes, changed, lengths_of, step}
+use Rattle.arr_ops.specs.Memory.{Memory, Cell, Slot, Writes, changed, lengths_of, step, without_slots}
 use Rattle.arr_ops.specs.declared.op.Op.{Op}
 use Rattle.arr_store.specs.Cells.{assigned, size_at}
 use Rattle.arr_store.specs.Slots.{slots_of}
@@ -15,10 +15,6 @@ use Rattle.arr_store.specs.Stored.{Stored, cells}
 abbrev pub memory : Stored → List Slot → Memory
 memory s list = record { bases = cells s; slots = slots_of list }
 
--- without its slots
-abbrev pub bare : Memory → Memory
-bare m = record { bases = m.bases; slots = λ s. None }
-
 -- the slot is there for the view that the operation shows
 abbrev pub shows : Op → Option Slot → Bool
 shows op None = false
@@ -26,7 +22,7 @@ shows op (Some s) = same_elem s.elem op.from && (same_lists s.lengths (lengths_o
 
 -- what it names is there, the base that it creates is not, and its slot is there
 abbrev pub can_run : Memory → Op → Bool
-can_run m op = op_fits (bare m) (op ∷ []) op && list_all (λ s. shows op (m.slots s)) (option_to_list op.slot)
+can_run m op = op_fits (without_slots m) (op ∷ []) op && list_all (λ s. shows op (m.slots s)) (option_to_list op.slot)
 
 -- one after another
 abbrev pub can_run_all : Memory → List Op → Bool

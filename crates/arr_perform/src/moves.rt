@@ -1,7 +1,7 @@
 //! Lists of numbers out of a store, into a store and into a slot.
 ghost use Rattle.std.specs.Prelude.{◌≡◌, ◌+◌, ◌*◌, ◌≤◌, ◌^◌, IsSome, IfOk, true, length};
 ghost use Rattle.std.specs.List.{list_all};
-ghost use Rattle.arr_view.specs.Views.{elements};
+ghost use Rattle.arr_view.specs.Views.{elements, most_elements};
 ghost use Rattle.arr_ops.specs.Memory.{read};
 ghost use Rattle.arr_store.specs.Cells.{assigned, takes};
 ghost use Rattle.arr_store.specs.Stored.{cells};
@@ -62,7 +62,7 @@ pub(crate) fn write_view(view: &View, numbers: &[i128], store: &mut Store)
 pub(crate) fn fill_slot(slot: u32, numbers: &[i128], slots: &mut Slots)
     requires some { IsSome (slots_of slots.old slot) }
     requires count { slot_size (slots_of slots.old slot) ≡ length numbers.now }
-    requires few { length numbers.now ≤ 1048576 }
+    requires few { length numbers.now ≤ most_elements }
     requires typed { list_all (slot_takes (slots_of slots.old slot)) numbers.now ≡ true }
     ensures { slots_of slots.new ≡ assigned (slots_of slots.old) slot (with_numbers (slots_of slots.old slot) numbers.now) }
 {

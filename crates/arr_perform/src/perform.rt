@@ -1,17 +1,17 @@
 //! One operation after another, each read whole before it writes.
 ghost use Rattle.std.specs.Prelude.{◌≡◌, ◌+◌, ◌*◌, ◌≤◌, ◌<◌, ◌^◌, [], ◌∷◌, IsTrue, IsSome, IfOk, OnOk, Some, None, true, false, nat_le, length, map, pos};
 ghost use Rattle.std.specs.List.{list_all, range_with_len};
-ghost use Rattle.arr_view.specs.Views.{elements, positions};
+ghost use Rattle.arr_view.specs.Views.{elements, most_elements, positions};
 ghost use Rattle.arr_num.specs.Kinds.{Ending, Printing, is_element_wise, is_fold, kind};
 ghost use Rattle.arr_num.specs.Numbers.{in_type};
 ghost use Rattle.arr_ops.specs.Ops.{keeps_bases, view_of};
 ghost use Rattle.arr_ops.specs.Formed.{is_array, is_formed, well_formed};
-ghost use Rattle.arr_ops.specs.Memory.{computed, eager, first_numbers, operand, put, results, step};
+ghost use Rattle.arr_ops.specs.Memory.{computed, eager, first_numbers, operand, put, results, step, without_slots};
 ghost use Rattle.arr_ops.specs.Fits.{fits, op_fits};
 ghost use Rattle.arr_store.specs.Cells.{assigned};
 ghost use Rattle.arr_store.specs.Slots.{blank_slots, slots_of};
 ghost use Rattle.arr_store.specs.Stored.{cells};
-ghost use Rattle.arr_perform.specs.Performed.{bare, can_run, can_run_all, lie_inside, memory};
+ghost use Rattle.arr_perform.specs.Performed.{can_run, can_run_all, lie_inside, memory};
 
 use crate::computing::applied;
 use crate::folding::{folded, scanned};
@@ -89,7 +89,7 @@ fn element_wise(
     requires well { well_formed op.now ≡ true }
     requires code { IsTrue (is_element_wise op.now.code) }
     requires out { op.now.out ≡ Some out.now }
-    requires fits { op_fits (bare (memory store.old [])) (op.now ∷ []) op.now ≡ true }
+    requires fits { op_fits (without_slots (memory store.old [])) (op.now ∷ []) op.now ≡ true }
     requires room { store.old.loads + 16777216 ≤ 2 ^ 62 }
     ensures numbers { IfOk result (λ v. v.items ≡ computed (memory store.old []) op.now) }
     ensures bases { store.new.bases ≡ store.old.bases }
@@ -122,7 +122,7 @@ fn axis_results(
 ) -> Result<Vec<i128>, NoMemory>
     requires code { IsTrue (is_fold code) }
     requires each { list_all (nat_le 1) shape.now ≡ true }
-    requires few { positions shape.now ≤ 1048576 }
+    requires few { positions shape.now ≤ most_elements }
     requires axis { axis < length shape.now }
     requires typed { list_all (in_type ty) numbers.now ≡ true }
     requires count { length numbers.now ≡ positions shape.now }
@@ -151,7 +151,7 @@ fn along_axis(
     requires code { IsTrue (is_fold op.now.code) }
     requires input { op.now.first ≡ Some (Operand.Array input.now) }
     requires axis { op.now.axis ≡ Some axis }
-    requires fits { op_fits (bare (memory store.old [])) (op.now ∷ []) op.now ≡ true }
+    requires fits { op_fits (without_slots (memory store.old [])) (op.now ∷ []) op.now ≡ true }
     requires room { store.old.loads + 16777216 ≤ 2 ^ 62 }
     ensures numbers { IfOk result (λ v. v.items ≡ computed (memory store.old []) op.now) }
     ensures bases { store.new.bases ≡ store.old.bases }
@@ -207,7 +207,7 @@ fn put_out(
 ) -> Result<(), NoMemory>
     requires well { well_formed op.now ≡ true }
     requires out { op.now.out ≡ Some out.now }
-    requires fits { op_fits (bare (memory store.old [])) (op.now ∷ []) op.now ≡ true }
+    requires fits { op_fits (without_slots (memory store.old [])) (op.now ∷ []) op.now ≡ true }
     requires count { length numbers.now ≡ positions out.now.lengths }
     requires typed { list_all (in_type op.now.to) numbers.now ≡ true }
     requires room { store.old.stores + 8388608 ≤ 2 ^ 62 }
@@ -242,7 +242,7 @@ fn shown(operand: &Option<Operand>) -> &View
 fn computed(alloc: Global, op: &Op, out: &View, store: &mut Store) -> Result<Vec<i128>, NoMemory>
     requires well { well_formed op.now ≡ true }
     requires out { op.now.out ≡ Some out.now }
-    requires fits { op_fits (bare (memory store.old [])) (op.now ∷ []) op.now ≡ true }
+    requires fits { op_fits (without_slots (memory store.old [])) (op.now ∷ []) op.now ≡ true }
     requires room { store.old.loads + 16777216 ≤ 2 ^ 62 }
     ensures numbers { IfOk result (λ v. v.items ≡ computed (memory store.old []) op.now) }
     ensures bases { store.new.bases ≡ store.old.bases }
@@ -269,7 +269,7 @@ fn computed(alloc: Global, op: &Op, out: &View, store: &mut Store) -> Result<Vec
 fn release(op: &Op, store: &mut Store)
     requires well { well_formed op.now ≡ true }
     requires code { kind op.now.code ≡ Ending }
-    requires fits { op_fits (bare (memory store.old [])) (op.now ∷ []) op.now ≡ true }
+    requires fits { op_fits (without_slots (memory store.old [])) (op.now ∷ []) op.now ≡ true }
     ensures bases { cells store.new ≡ (step (memory store.old []) op.now).bases }
     ensures loads { store.new.loads ≡ store.old.loads }
     ensures stores { store.new.stores ≡ store.old.stores }
@@ -306,7 +306,7 @@ fn show(alloc: Global, op: &Op, store: &mut Store, slots: &mut Slots) -> Result<
 fn compute(alloc: Global, op: &Op, store: &mut Store) -> Result<(), NoMemory>
     requires well { well_formed op.now ≡ true }
     requires code { keeps_bases (kind op.now.code) ≡ false }
-    requires fits { op_fits (bare (memory store.old [])) (op.now ∷ []) op.now ≡ true }
+    requires fits { op_fits (without_slots (memory store.old [])) (op.now ∷ []) op.now ≡ true }
     requires room { store.old.loads + 16777216 ≤ 2 ^ 62 }
     requires room_stores { store.old.stores + 8388608 ≤ 2 ^ 62 }
     requires room_made { store.old.made < 2 ^ 62 }
@@ -395,14 +395,14 @@ pub fn perform_all(
     slots: &mut Slots,
 ) -> Result<(), NoMemory>
     requires formed { is_formed ops.now ≡ true }
-    requires fitting { fits (bare (memory store.old slots.old)) ops.now ≡ true }
+    requires fitting { fits (without_slots (memory store.old slots.old)) ops.now ≡ true }
     requires blank { slots_of slots.old ≡ blank_slots ops.now }
     requires few { length ops.now ≤ 256 }
     requires room_loads { store.old.loads < 2 ^ 61 }
     requires room_stores { store.old.stores < 2 ^ 61 }
     requires room_made { store.old.made < 2 ^ 61 }
-    ensures bases { OnOk result (cells store.new ≡ (eager (bare (memory store.old slots.old)) ops.now).bases) }
-    ensures shown { OnOk result (slots_of slots.new ≡ (eager (bare (memory store.old slots.old)) ops.now).slots) }
+    ensures bases { OnOk result (cells store.new ≡ (eager (without_slots (memory store.old slots.old)) ops.now).bases) }
+    ensures shown { OnOk result (slots_of slots.new ≡ (eager (without_slots (memory store.old slots.old)) ops.now).slots) }
     ensures loads { OnOk result (store.new.loads ≤ store.old.loads + 2 ^ 32) }
     ensures stores { OnOk result (store.new.stores ≤ store.old.stores + 2 ^ 32) }
     ensures made { OnOk result (store.new.made ≤ store.old.made + 2 ^ 32) }

@@ -31,3 +31,4 @@ pub mod Laws
 pub mod Folding
 pub mod Joining
 pub mod Places
+pub mod Settling

@@ -1,14 +1,12 @@
 -- Who writes what an operation reads, and what is written in between.
-use Rattle.std.specs.Prelude.{ℕ, ◌==◌, List, [], ◌∷◌, Bool, cond, not, ◌&&◌, ◌||◌, Option, None}
+use Rattle.std.specs.Prelude.{ℕ, List, [], ◌∷◌, Bool, cond, not, ◌&&◌, ◌||◌, Option, None}
 use Rattle.std.specs.Bool.{then_some}
 use Rattle.std.specs.List.{list_any, list_all}
 use Rattle.arr_view.specs.Strided.{Strided}
 use Rattle.arr_view.specs.Views.{overlap, has}
+pub use Rattle.arr_ops.specs.Ops.{writes_base}
 use Rattle.arr_ops.specs.Ops.{outputs, freed}
 use Rattle.arr_ops.specs.declared.op.Op.{Op}
-
-abbrev pub writes_base : Op → ℕ → Bool
-writes_base f b = list_any (λ (o : Strided). o.base == b) (outputs f)
 
 abbrev pub unwritten_base : List Op → ℕ → Bool
 unwritten_base fs b = list_all (λ f. not (writes_base f b)) fs

@@ -1,5 +1,5 @@
 //! The applications, one after another, until none is left.
-ghost use Rattle.std.specs.Prelude.{◌≡◌, ◌+◌, ◌<◌, IfOk, Some, None, cond, true, false, length, take, drop, get_or, ◌++◌};
+ghost use Rattle.std.specs.Prelude.{◌≡◌, ◌+◌, ◌<◌, ◌≤◌, IfOk, Some, None, cond, true, false, length, take, drop, get_or, ◌++◌};
 ghost use Rattle.arr_ops.specs.Memory.{Memory, eager};
 ghost use Rattle.arr_ops.specs.Formed.{is_formed};
 ghost use Rattle.arr_ops.specs.Fits.{fits};
@@ -9,6 +9,7 @@ ghost use Rattle.arr_ops.specs.declared.op.Op.{Op};
 ghost use Rattle.arr_rewrite.specs.Rules.{copies_itself};
 ghost use Rattle.arr_rewrite.specs.NextRewrite.{next_rewrite, replaced, replacement, rewrite_from, unused};
 ghost use Rattle.arr_rewrite.specs.NormalForm.{normal_form};
+ghost use Rattle.arr_rewrite.specs.Settled.{Searched, SettledTo};
 
 use crate::meetings::Meetings;
 use crate::replaced::replacement;
@@ -17,28 +18,13 @@ use crate::unused::{remove_frees, unused_base};
 use arr_ops::Op;
 use std::alloc::{AllocError as NoMemory, Global};
 
-/// Makes the first application that there is at the place, and tells whether there is one.
-fn rewrite_place(
-    meetings: &mut Meetings,
-    list: &mut Vec<Op>,
-    place: usize,
-) -> Result<bool, NoMemory>
-    requires place { place < length list.now.items }
-    requires formed { is_formed list.now.items ≡ true }
-    ensures next { IfOk result (λ done. rewrite_from (take place list.old.items) (drop place list.old.items) ≡ cond done (Some list.new.items) (rewrite_from (take (place + 1) list.old.items) (drop (place + 1) list.old.items))) }
-    ensures kept { IfOk result (λ done. done ≡ false → list.new.items ≡ list.old.items) }
-{
-    if replace(meetings, list, place)? {
-        return Ok(true);
-    }
-    Ok(remove(list, place))
-}
-
-/// Lets the operation at the place become another, where a rule says so.
+/// Lets the operation at the place become another, where a rule says so. The places before it stay settled: the output is the same.
 fn replace(meetings: &mut Meetings, list: &mut Vec<Op>, place: usize) -> Result<bool, NoMemory>
     requires place { place < length list.now.items }
     requires formed { is_formed list.now.items ≡ true }
     ensures becomes { IfOk result (λ done. (op : Op) → op ≡ get_or list.old.items place op → replaced (take place list.old.items) (drop (place + 1) list.old.items) (replacement (take place list.old.items) op (drop (place + 1) list.old.items)) ≡ cond done (Some list.new.items) None) }
+    ensures long { IfOk result (λ done. length list.new.items ≡ length list.old.items) }
+    ensures settled { IfOk result (λ done. SettledTo place list.old.items → SettledTo place list.new.items) }
     ensures kept { IfOk result (λ done. done ≡ false → list.new.items ≡ list.old.items) }
 {
     let ops = list.as_slice();
@@ -52,16 +38,25 @@ fn replace(meetings: &mut Meetings, list: &mut Vec<Op>, place: usize) -> Result<
     }
 }
 
-/// Removes the operation at the place, where a rule says so, and what frees its base.
-fn remove(list: &mut Vec<Op>, place: usize) -> bool
+/// Removes the operation at the place, where it copies a view to itself.
+fn remove_copy(list: &mut Vec<Op>, place: usize) -> bool
     requires { place < length list.now.items }
-    ensures left { (op : Op) → op ≡ get_or list.old.items place op → option_or (then_some (copies_itself op) (take place list.old.items ++ drop (place + 1) list.old.items)) (unused (take place list.old.items) op (drop (place + 1) list.old.items) op.out) ≡ cond result (Some list.new.items) None }
+    ensures left { (op : Op) → op ≡ get_or list.old.items place op → then_some (copies_itself op) (take place list.old.items ++ drop (place + 1) list.old.items) ≡ cond result (Some list.new.items) None }
     ensures kept { result ≡ false → list.new.items ≡ list.old.items }
 {
     if copies_itself(&list[place]) {
         list.remove(place);
         return true;
     }
+    false
+}
+
+/// Removes the operation at the place, where it makes a base that nothing uses, and what frees the base.
+fn remove_unused(list: &mut Vec<Op>, place: usize) -> bool
+    requires { place < length list.now.items }
+    ensures left { (op : Op) → op ≡ get_or list.old.items place op → unused (take place list.old.items) op (drop (place + 1) list.old.items) op.out ≡ cond result (Some list.new.items) None }
+    ensures kept { result ≡ false → list.new.items ≡ list.old.items }
+{
     let ops = list.as_slice();
     match unused_base(&ops[..place], &ops[place], &ops[place + 1..]) {
         Some(base) => {
@@ -73,18 +68,64 @@ fn remove(list: &mut Vec<Op>, place: usize) -> bool
     }
 }
 
-/// Makes the next application, and tells whether there is one.
-fn rewrite_once(meetings: &mut Meetings, list: &mut Vec<Op>) -> Result<bool, NoMemory>
-    requires { is_formed list.now.items ≡ true }
-    ensures next { IfOk result (λ done. next_rewrite list.old.items ≡ cond done (Some list.new.items) None) }
-    ensures kept { IfOk result (λ done. done ≡ false → list.new.items ≡ list.old.items) }
+/// Makes the application of least place among the settled ones, and tells whether there is one: it can but remove an unused base.
+fn rewrite_settled(list: &mut Vec<Op>, settled: usize) -> bool
+    requires few { settled ≤ length list.now.items }
+    requires settled { SettledTo settled list.now.items }
+    ensures next { next_rewrite list.old.items ≡ cond result (Some list.new.items) (rewrite_from (take settled list.old.items) (drop settled list.old.items)) }
+    ensures kept { result ≡ false → list.new.items ≡ list.old.items }
 {
-    for place in 0..list.len() {
-        if rewrite_place(meetings, list, place)? {
-            return Ok(true);
+    for place in 0..settled {
+        if remove_unused(list, place) {
+            return true;
         }
     }
-    Ok(false)
+    false
+}
+
+/// Makes the application of least place behind the settled ones, and tells how many places are settled then; `None` where there is
+/// no application.
+fn rewrite_rest(
+    meetings: &mut Meetings,
+    list: &mut Vec<Op>,
+    settled: usize,
+) -> Result<Option<usize>, NoMemory>
+    requires formed { is_formed list.now.items ≡ true }
+    requires few { settled ≤ length list.now.items }
+    requires settled { SettledTo settled list.now.items }
+    ensures next { IfOk result (λ place. Searched (rewrite_from (take settled list.old.items) (drop settled list.old.items)) list.new.items place) }
+    ensures kept { IfOk result (λ place. place ≡ None → list.new.items ≡ list.old.items) }
+{
+    for place in settled..list.len() {
+        if replace(meetings, list, place)? {
+            return Ok(Some(place));
+        }
+        if remove_copy(list, place) {
+            return Ok(Some(0));
+        }
+        if remove_unused(list, place) {
+            return Ok(Some(0));
+        }
+    }
+    Ok(None)
+}
+
+/// Makes the next application, and tells how many places are settled then; `None` where there is no application.
+fn rewrite_once(
+    meetings: &mut Meetings,
+    list: &mut Vec<Op>,
+    settled: usize,
+) -> Result<Option<usize>, NoMemory>
+    requires formed { is_formed list.now.items ≡ true }
+    requires few { settled ≤ length list.now.items }
+    requires settled { SettledTo settled list.now.items }
+    ensures next { IfOk result (λ place. Searched (next_rewrite list.old.items) list.new.items place) }
+    ensures kept { IfOk result (λ place. place ≡ None → list.new.items ≡ list.old.items) }
+{
+    if rewrite_settled(list, settled) {
+        return Ok(Some(0));
+    }
+    rewrite_rest(meetings, list, settled)
 }
 
 fn copied(alloc: Global, ops: &[Op]) -> Result<Vec<Op>, NoMemory>
@@ -109,7 +150,10 @@ pub fn rewrite(alloc: Global, ops: &[Op]) -> Result<Vec<Op>, NoMemory>
     ensures memory { (m : Memory) → fits m ops.now ≡ true → IfOk result (λ list. eager m list.items ≡ eager m ops.now) }
 {
     let mut list = copied(alloc, ops)?;
-    let mut meetings = Meetings::new(alloc);
-    'applications: while rewrite_once(&mut meetings, &mut list)? {}
+    let mut meetings = Meetings::new(alloc, ops)?;
+    let mut settled = 0;
+    'applications: while let Some(place) = rewrite_once(&mut meetings, &mut list, settled)? {
+        settled = place;
+    }
     Ok(list)
 }

@@ -2,7 +2,7 @@
 ghost use Rattle.std.specs.Prelude.{◌≡◌, ◌∷◌, ◌&&◌, IfOk, Some, None, cond};
 ghost use Rattle.std.specs.List.{list_any};
 ghost use Rattle.arr_view.specs.Views.{identical};
-ghost use Rattle.arr_ops.specs.Formed.{same_elem};
+ghost use Rattle.arr_num.specs.Types.{same_elem};
 ghost use Rattle.arr_ops.specs.Ops.{outputs};
 ghost use Rattle.arr_rewrite.specs.Rules.{is_identity};
 ghost use Rattle.arr_rewrite.specs.NextRewrite.{constant_carried, copied_from, copied_operand, copy_carried, first_number, first_view, known_operand, second_number, second_view, source_number, source_view};
@@ -11,7 +11,6 @@ use crate::meetings::Meetings;
 use crate::rules::{constant_op, with_first, with_second};
 use crate::tables::{is_identity, is_scalar};
 use crate::writers::{OnlyWriter, is_output, only_writer, unspoiled};
-use arr_num::Elem;
 use arr_ops::{Op, Operand};
 use arr_view::View;
 use std::alloc::AllocError as NoMemory;
@@ -102,17 +101,11 @@ fn source_view(
     }
 }
 
-fn same_elem(left: Elem, right: Elem) -> bool
-    ensures { result ≡ same_elem left right }
-{
-    left == right
-}
-
 /// Whether it is IDENTITY into the view, in one type.
 fn copies_into(op: &Op, view: &View) -> bool
     ensures { result ≡ (is_identity op.now.code && (same_elem op.now.from op.now.to && list_any (identical view.now) (outputs op.now))) }
 {
-    is_identity(op.code) && same_elem(op.from, op.to) && is_output(view, op)
+    is_identity(op.code) && op.from == op.to && is_output(view, op)
 }
 
 /// The view that the writer copies to this one.

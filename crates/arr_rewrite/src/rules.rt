@@ -13,27 +13,9 @@ use crate::tables::{
     fixed_left, fixed_right, is_identity, is_scalar, neutral_left, neutral_right, same,
 };
 use arr_num::{Code, Elem, binary, unary};
-use arr_ops::{Op, Operand};
+use arr_ops::{Op, Operand, copied_operand, copied_view};
 use arr_overlap::identical;
 use arr_view::View;
-
-fn copied_view(view: &Option<View>) -> Option<View>
-    ensures { result ≡ view.now }
-{
-    match view {
-        Some(view) => Some(view.copied()),
-        None => None,
-    }
-}
-
-fn copied_operand(operand: &Option<Operand>) -> Option<Operand>
-    ensures { result ≡ operand.now }
-{
-    match operand {
-        Some(operand) => Some(operand.copied()),
-        None => None,
-    }
-}
 
 /// The operation with another code, other operands and another type of inputs.
 fn changed_op(

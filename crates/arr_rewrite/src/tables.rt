@@ -72,13 +72,6 @@ fn ones(ty: Elem) -> i128
     }
 }
 
-/// The count of a shift, modulo the type's bits.
-fn shift(ty: Elem, count: i128) -> u32
-    ensures { result ≡ shift ty count }
-{
-    count.rem_euclid(8 * ty.width() as i128) as u32
-}
-
 /// Whether the constant on the right of the code changes nothing.
 pub(crate) fn neutral_right(code: Code, ty: Elem, constant: i128) -> bool
     ensures { result ≡ neutral_right code ty constant }
@@ -87,7 +80,7 @@ pub(crate) fn neutral_right(code: Code, ty: Elem, constant: i128) -> bool
         Code::Add | Code::Subtract | Code::BitwiseOr | Code::BitwiseXor => same(constant, 0),
         Code::Multiply | Code::Divide => same(constant, 1),
         Code::BitwiseAnd => same(constant, ones(ty)),
-        Code::LeftShift | Code::RightShift => shift(ty, constant) == 0,
+        Code::LeftShift | Code::RightShift => ty.shift(constant) == 0,
         Code::Maximum => same(constant, ty.least()),
         Code::Minimum => same(constant, ty.greatest()),
         _ => false,

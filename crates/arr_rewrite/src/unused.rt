@@ -1,41 +1,12 @@
 //! Bases that nothing uses.
-ghost use Rattle.std.specs.Prelude.{◌≡◌, ◌&&◌, ◌||◌, ◌++◌, IfSome, true, not, map};
-ghost use Rattle.std.specs.Option.{option_map, option_to_list};
+ghost use Rattle.std.specs.Prelude.{◌≡◌, ◌&&◌, ◌||◌, ◌++◌, IfSome, true, not};
+ghost use Rattle.std.specs.Option.{option_map};
 ghost use Rattle.std.specs.List.{list_all, list_any};
 ghost use Rattle.arr_view.specs.Views.{has};
-ghost use Rattle.arr_ops.specs.Ops.{named, view_of};
+ghost use Rattle.arr_ops.specs.Ops.{named};
 ghost use Rattle.arr_rewrite.specs.NextRewrite.{frees_base, only_freed, unfreed, unused};
 
-use arr_ops::{Op, Operand};
-use arr_view::View;
-
-/// Whether the operation names the base.
-fn names(op: &Op, base: u32) -> bool
-    ensures { result ≡ has (named op.now) base }
-{
-    is_of(&op.out, base)
-        || reads_base(&op.first, base)
-        || reads_base(&op.second, base)
-        || op.frees == Some(base)
-}
-
-fn is_of(view: &Option<View>, base: u32) -> bool
-    ensures { result ≡ has (map (λ v. v.base) (option_to_list view.now)) base }
-{
-    match view {
-        Some(view) => base == view.base(),
-        None => false,
-    }
-}
-
-fn reads_base(operand: &Option<Operand>, base: u32) -> bool
-    ensures { result ≡ has (map (λ v. v.base) (view_of operand.now)) base }
-{
-    match operand {
-        Some(Operand::Array(view)) => base == view.base(),
-        _ => false,
-    }
-}
+use arr_ops::Op;
 
 fn frees_base(op: &Op, base: u32) -> bool
     ensures { result ≡ frees_base op.now base }
@@ -46,7 +17,7 @@ fn frees_base(op: &Op, base: u32) -> bool
 fn unnamed(ops: &[Op], base: u32) -> bool
     ensures { result ≡ list_all (λ f. not (has (named f) base)) ops.now }
 {
-    ops.iter().all(|op| !names(op, base))
+    ops.iter().all(|op| !op.names(base))
 }
 
 /// Whether some operation frees the base.
@@ -59,7 +30,7 @@ fn is_freed(ops: &[Op], base: u32) -> bool
 fn frees_or_leaves(op: &Op, base: u32) -> bool
     ensures { result ≡ (frees_base op.now base || not (has (named op.now) base)) }
 {
-    frees_base(op, base) || !names(op, base)
+    frees_base(op, base) || !op.names(base)
 }
 
 /// Whether those that don't free the base don't name it.
@@ -73,14 +44,14 @@ fn else_unnamed(ops: &[Op], base: u32) -> bool
 fn only_freed(ops: &[Op], base: u32) -> bool
     ensures { result ≡ only_freed ops.now base }
 {
-    is_freed(ops, base) && else_unnamed(ops, base)
+    else_unnamed(ops, base) && is_freed(ops, base)
 }
 
 /// Whether a creator's base is named by nothing but what frees it.
 pub(crate) fn is_unused(front: &[Op], op: &Op, back: &[Op], base: u32) -> bool
     ensures { result ≡ (op.now.makes && (list_all (λ f. not (has (named f) base)) front.now && only_freed back.now base)) }
 {
-    op.makes && unnamed(front, base) && only_freed(back, base)
+    op.makes && only_freed(back, base) && unnamed(front, base)
 }
 
 /// Takes out what frees the base.

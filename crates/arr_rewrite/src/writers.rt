@@ -3,7 +3,7 @@ ghost use Rattle.std.specs.Prelude.{◌≡◌, ◌∷◌, ◌&&◌, IfOk};
 ghost use Rattle.std.specs.List.{list_any};
 ghost use Rattle.arr_view.specs.Views.{identical};
 ghost use Rattle.arr_ops.specs.Ops.{outputs};
-ghost use Rattle.arr_rewrite.specs.Writers.{only_writer, only_writer_in, spoils, unspoiled, unwritten_base, writes_base};
+ghost use Rattle.arr_rewrite.specs.Writers.{only_writer, only_writer_in, spoils, unspoiled, unwritten_base};
 
 use crate::meetings::Meetings;
 use arr_ops::Op;
@@ -27,19 +27,10 @@ impl<'a> Model for OnlyWriter<'a> {
     ghost view = { λ w. record { op = w.op.now; between = w.between.now } };
 }
 
-fn writes_base(op: &Op, base: u32) -> bool
-    ensures { result ≡ writes_base op.now base }
-{
-    match &op.out {
-        Some(out) => out.base() == base,
-        None => false,
-    }
-}
-
 fn unwritten_base(ops: &[Op], base: u32) -> bool
     ensures { result ≡ unwritten_base ops.now base }
 {
-    ops.iter().all(|op| !writes_base(op, base))
+    ops.iter().all(|op| !op.writes(base))
 }
 
 /// The first that writes the base, if it makes it and none after it writes it.
@@ -47,7 +38,7 @@ fn only_writer_in(ops: &[Op], base: u32) -> Option<OnlyWriter<'_>>
     ensures { result ≡ only_writer_in ops.now base }
 {
     for (place, op) in ops.iter().enumerate() {
-        if writes_base(op, base) {
+        if op.writes(base) {
             let between = &ops[place + 1..];
             if op.makes && unwritten_base(between, base) {
                 return Some(OnlyWriter { op, between });
@@ -67,7 +58,7 @@ pub(crate) fn only_writer<'a>(
 ) -> Option<OnlyWriter<'a>>
     ensures { result ≡ only_writer front.now (op.now ∷ back.now) base }
 {
-    if writes_base(op, base) {
+    if op.writes(base) {
         return None;
     }
     if !unwritten_base(back, base) {

@@ -1,6 +1,7 @@
 //! The store: buffers by base, and what passed through them.
 ghost use Rattle.std.specs.Prelude.{ℕ, ◌≡◌, ◌+◌, ◌-◌, ◌<◌, ◌≤◌, ◌^◌, ◌++◌, IsTrue, IfOk, OnOk, OnErr, IsSome, Some, None, length, replicate};
 ghost use Rattle.std.specs.FinMap as finite;
+ghost use Rattle.arr_view.specs.Views.{most_elements};
 ghost use Rattle.arr_store.specs.Cells.{assigned, blank, number_at, size_at, takes, width_at, with_number};
 ghost use Rattle.arr_store.specs.Stored.{IsLawful, cells};
 
@@ -64,7 +65,7 @@ impl Store {
     pub fn make(&mut self, alloc: Global, base: u32, ty: Elem, length: u32) -> Result<(), NoMemory>
         requires absent { cells self.old base ≡ None }
         requires some { 1 ≤ length }
-        requires few { length ≤ 1048576 }
+        requires few { length ≤ most_elements }
         requires room { self.old.made < 2 ^ 62 }
         ensures bases { OnOk result (cells self.new ≡ assigned (cells self.old) base (Some (blank ty length))) }
         ensures made { OnOk result (self.new.made ≡ self.old.made + 1) }

@@ -2,12 +2,12 @@ use Rattle.std.proofs.Common.{◌≡◌, ◌∙◌, [], ◌∷◌, ap, sym}
 use Rattle.std.specs.FinMap as finite
 use Rattle.arr_num.specs.Kinds.{Kind, Ending, Printing, kind}
 use Rattle.arr_ops.specs.Fits.{op_fits}
-use Rattle.arr_ops.specs.Memory.{step}
+use Rattle.arr_ops.specs.Memory.{step, without_slots}
 use Rattle.arr_ops.proofs.Tests.{both_left}
 use Rattle.arr_ops.proofs.Spots.{operands_of}
 use Rattle.arr_store.specs.Stored.{cells}
 use Rattle.arr_store.specs.Slots.{slots_of}
-use Rattle.arr_perform.specs.Performed.{memory, bare}
+use Rattle.arr_perform.specs.Performed.{memory}
 use Rattle.arr_perform.proofs.Steps.{same_memory}
 use Rattle.arr_perform.proofs.Performing.{bases_alike, bases_kept, no_slot_of, slots_kept, others_compute, not_printing, on_ok}
 use Rattle.arr_perform.proofs.perform.perform.Goals as goal
@@ -17,7 +17,7 @@ compute-requires c =
     record {
       well = c.requires.well;
       code = others_compute c.args.op.now.code c.in_default.not-Free c.in_default.not-Sync;
-      fits = both_left (op_fits (bare (memory c.args.store.now c.args.slots.now)) (c.args.op.now ∷ []) c.args.op.now) _ c.requires.runs;
+      fits = both_left (op_fits (without_slots (memory c.args.store.now c.args.slots.now)) (c.args.op.now ∷ []) c.args.op.now) _ c.requires.runs;
       room = c.requires.room;
       room_stores = c.requires.room_stores;
       room_made = c.requires.room_made;

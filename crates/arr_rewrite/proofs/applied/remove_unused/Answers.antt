@@ -1,14 +1,11 @@
-use Rattle.std.proofs.Common.{◌≡◌, ℕ, suc, ◌+◌, List, ◌++◌, true, false, not, ap, ap₂, sym, ◌∙◌, arith, Some, take, drop, get_or}
-use Rattle.std.specs.Bool.{then_some}
-use Rattle.std.specs.Option.{option_or}
+use Rattle.std.proofs.Common.{◌≡◌, ℕ, suc, ◌+◌, List, ◌++◌, true, not, ap, ap₂, sym, ◌∙◌, arith, Some, take, drop, get_or}
 use Rattle.std.specs.List.{list_all}
 use Rattle.arr_view.specs.Views.{has}
 use Rattle.arr_ops.specs.Ops.{named}
 use Rattle.arr_ops.specs.declared.op.Op.{Op}
-use Rattle.arr_rewrite.specs.Rules.{copies_itself}
 use Rattle.arr_rewrite.specs.NextRewrite.{unused, unfreed}
 use Rattle.arr_rewrite.proofs.Places.{same_item, behind, frees_removed}
-use Rattle.arr_rewrite.proofs.applied.remove.Goals as goal
+use Rattle.arr_rewrite.proofs.applied.remove_unused.Goals as goal
 
 pub returns-in-Some-clause-left : goal.returns-in-Some-clause-left
 returns-in-Some-clause-left c op e =
@@ -19,12 +16,11 @@ returns-in-Some-clause-left c op e =
     let value = c.as_slice-ops.ensures.value in
     let same : op ≡ x = same_item list p op x c.requires e (c.index-ops-place.is ∙ ap (λ ys. get_or ys p x) value) in
     let back = behind c.as_slice-ops.result.now list p value in
-    let other : copies_itself op ≡ false = ap copies_itself (same_item list p op c.index.result.now c.requires e c.index.ensures) ∙ sym c.copies_itself.ensures ∙ c.if-copies_itself.false in
     let told : unused (take p list) op (drop (p + 1) list) op.out ≡ Some (take p list ++ unfreed (drop (p + 1) list) b) =
     ap (λ (o : Op). unused (take p list) o (drop (p + 1) list) o.out) same ∙ ap₂ (λ fs gs. unused fs x gs x.out) (sym (ap (take p) value)) (sym back) ∙ c.in-Some.ensures.left
     ∙ ap₂ (λ fs gs. Some (fs ++ unfreed gs b)) (ap (take p) value) back in
     let unnamed : list_all (λ f. not (has (named f) b)) (take p list) ≡ true = ap (λ fs. list_all (λ f. not (has (named f) b)) (take p fs)) (sym value) ∙ c.in-Some.ensures.unnamed in
     let next : suc p ≡ p + 1 = omega arith in
     let left : c.remove_frees.new.list.items ≡ take p list ++ unfreed (drop (p + 1) list) b =
-    c.remove_frees.ensures ∙ ap (λ fs. unfreed fs b) (c.remove-in-Some.ensures.items ∙ ap (λ k. take p list ++ drop k list) next) ∙ frees_removed b (take p list) (drop (p + 1) list) unnamed in
-    ap₂ (λ t u. option_or (then_some t (take p list ++ drop (p + 1) list)) u) other told ∙ ap Some (sym left)
+    c.remove_frees.ensures ∙ ap (λ fs. unfreed fs b) (c.remove.ensures.items ∙ ap (λ k. take p list ++ drop k list) next) ∙ frees_removed b (take p list) (drop (p + 1) list) unnamed in
+    told ∙ ap Some (sym left)
