@@ -1,0 +1,11 @@
+pub mod Sums
+pub mod Members
+pub mod Keeps
+pub mod Pays
+pub mod Settles
+pub mod Answers
+pub mod Floors
+pub mod Proper
+pub mod Agrees
+pub mod Legal
+pub mod Lists

@@ -1,0 +1,12 @@
+pub mod Problem
+pub mod Facts
+pub mod Rules
+pub mod Plans
+pub mod Leaves
+pub mod Trees
+pub mod Verdict
+pub mod Settled
+pub mod Floor
+pub mod ProblemOf
+pub mod Laws
+pub mod Examples
