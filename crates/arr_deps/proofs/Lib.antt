@@ -1,0 +1,2 @@
+pub mod RowsBy
+pub mod ClassTests

@@ -1,0 +1,7 @@
+use Rattle.arr_ops.specs.Ops.{dep}
+use Rattle.arr_deps.specs.Graph.{nothing, op_in}
+use Rattle.arr_deps.proofs.RowsBy.{Row}
+use Rattle.arr_deps.proofs.tables.dep_row.Given as goal
+
+abbrev pub invariant-loop-place : goal.invariant-loop-place
+invariant-loop-place l = Row (dep (op_in l.ops l.f)) nothing l.ops l.place l.row

@@ -1,0 +1,5 @@
+pub mod LinearPlan
+pub mod Stretches
+pub mod Merge
+pub mod Merged
+pub mod Saves

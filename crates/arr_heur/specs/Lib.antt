@@ -1,0 +1,4 @@
+pub mod Planners
+pub mod Segments
+pub mod Worked
+pub mod HeurLaws
