@@ -1,6 +1,6 @@
 mod Bits
-mod Answers
+pub mod Answers
 mod Signed
 mod Unsigned
 mod Rounds
-mod Settled
+pub mod Settled
