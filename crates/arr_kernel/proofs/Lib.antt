@@ -1,6 +1,6 @@
 mod Bits
 pub mod Answers
-mod Signed
+pub mod Signed
 mod Unsigned
 mod Rounds
 pub mod Settled
