@@ -1,6 +1,6 @@
 mod Bits
-mod Answers
-mod Signed
+pub mod Answers
+pub mod Signed
 mod Unsigned
 mod Rounds
-mod Settled
+pub mod Settled

@@ -34,28 +34,36 @@ macro_rules! table {
     };
 }
 
-pub(crate) fn value_u8(code: Code, x: u8, y: u8) -> i128
+/// The value of a code of the table at two numbers of `u8` (docs/LANGUAGE.md, "Opcodes"). A unary code takes no notice of `y`.
+#[inline(always)]
+pub fn value_u8(code: Code, x: u8, y: u8) -> i128
     requires { IsTrue (in_table code) }
     ensures { result ≡ value code Elem.U8 (pos x) (pos y) }
 {
     table!(code, x, y, 8, x)
 }
 
-pub(crate) fn value_i32(code: Code, x: i32, y: i32) -> i128
+/// The value of a code of the table at two numbers of `i32` (docs/LANGUAGE.md, "Opcodes"). A unary code takes no notice of `y`.
+#[inline(always)]
+pub fn value_i32(code: Code, x: i32, y: i32) -> i128
     requires { IsTrue (in_table code) }
     ensures { result ≡ value code Elem.I32 x y }
 {
     table!(code, x, y, 32, x.wrapping_abs())
 }
 
-pub(crate) fn value_i64(code: Code, x: i64, y: i64) -> i128
+/// The value of a code of the table at two numbers of `i64` (docs/LANGUAGE.md, "Opcodes"). A unary code takes no notice of `y`.
+#[inline(always)]
+pub fn value_i64(code: Code, x: i64, y: i64) -> i128
     requires { IsTrue (in_table code) }
     ensures { result ≡ value code Elem.I64 x y }
 {
     table!(code, x, y, 64, x.wrapping_abs())
 }
 
-pub(crate) fn value_u64(code: Code, x: u64, y: u64) -> i128
+/// The value of a code of the table at two numbers of `u64` (docs/LANGUAGE.md, "Opcodes"). A unary code takes no notice of `y`.
+#[inline(always)]
+pub fn value_u64(code: Code, x: u64, y: u64) -> i128
     requires { IsTrue (in_table code) }
     ensures { result ≡ value code Elem.U64 (pos x) (pos y) }
 {

@@ -1,0 +1,14 @@
+use Rattle.std.proofs.Common.{◌≡◌, pos, ap₂, ◌∙◌}
+use Rattle.std.proofs.lemmas.Int.{to_z-of_z}
+use Rattle.std.specs.Int.{w64}
+use Rattle.arr_num.specs.Numbers.{value}
+use Rattle.arr_num.specs.declared.elem.Elem.TheVariants.{U8, I64}
+use Rattle.arr_kernel.proofs.Settled.{settled}
+use Rattle.arr_native.proofs.Casts.{typed, cast_byte, back_byte}
+use Rattle.arr_native.proofs.native.I64Native.compare.Goals as goal
+
+pub overflow_cast-result : goal.overflow_cast-result
+overflow_cast-result c = cast_byte c.value_i64.result (value c.args.code U8 c.args.x c.args.y) ((c.value_i64.ensures ∙ ap₂ (value c.args.code I64) (to_z-of_z w64 c.args.x c.ranges.x) (to_z-of_z w64 c.args.y c.ranges.y)) ∙ settled c.args.code U8 I64 c.args.x c.args.y c.requires.comparison c.requires.table) (typed c.args.code U8 c.args.x c.args.y)
+
+pub returns : goal.returns
+returns c = back_byte c.value_i64.result (value c.args.code U8 c.args.x c.args.y) ((c.value_i64.ensures ∙ ap₂ (value c.args.code I64) (to_z-of_z w64 c.args.x c.ranges.x) (to_z-of_z w64 c.args.y c.ranges.y)) ∙ settled c.args.code U8 I64 c.args.x c.args.y c.requires.comparison c.requires.table) (typed c.args.code U8 c.args.x c.args.y)

@@ -1,0 +1,135 @@
+ghost use Rattle.std.specs.Prelude.{◌≡◌, ℕ, ◌<◌, ◌≤◌, ◌+◌, IsTrue, length, pos};
+ghost use Rattle.arr_num.specs.Numbers.{value};
+ghost use Rattle.arr_native.specs.Entries.{entry};
+ghost use Rattle.arr_vector.specs.Sorts.{is_arithmetic, is_comparison};
+
+use arr_native::Native;
+use arr_num::{Code, Elem};
+
+// One closure for each code, so that each code has a loop of its own.
+macro_rules! table {
+    ($value:path, $code:expr, $out:expr, $a:expr, $b:expr, $count:expr, $($name:ident),*) => {
+        match $code {
+            $(Code::$name => zip_with($code, $out, $a, $b, $count, |x, y| $value(Code::$name, x, y)),)*
+            _ => unreachable!(),
+        }
+    };
+}
+
+/// The first `count` values of a code whose result has the type of its inputs, from those of `a` and `b` (docs/LANGUAGE.md,
+/// "Opcodes"). A unary code takes no notice of `b`.
+pub fn compute<T: Native>(code: Code, out: &mut [T], a: &[T], b: &[T], count: usize)
+    requires code { IsTrue (is_arithmetic code) }
+    requires out { count ≤ length out.old }
+    requires a { count ≤ length a.now }
+    requires b { count ≤ length b.now }
+    ensures length { length out.new ≡ length out.old }
+    ensures each { (i : ℕ) → i < count → entry T.number out.new i ≡ value code T.elem (entry T.number a.now i) (entry T.number b.now i) }
+{
+    table!(
+        T::compute,
+        code,
+        out,
+        a,
+        b,
+        count,
+        Add,
+        Subtract,
+        Multiply,
+        Divide,
+        Mod,
+        Maximum,
+        Minimum,
+        BitwiseAnd,
+        BitwiseOr,
+        BitwiseXor,
+        LeftShift,
+        RightShift,
+        Absolute,
+        Invert
+    )
+}
+
+/// The first `count` values of a comparison, from those of `a` and `b` (docs/LANGUAGE.md, "Opcodes"): 1 where it holds, else 0.
+pub fn compare<T: Native>(code: Code, out: &mut [u8], a: &[T], b: &[T], count: usize)
+    requires code { IsTrue (is_comparison code) }
+    requires out { count ≤ length out.old }
+    requires a { count ≤ length a.now }
+    requires b { count ≤ length b.now }
+    ensures length { length out.new ≡ length out.old }
+    ensures each { (i : ℕ) → i < count → entry pos out.new i ≡ value code Elem.U8 (entry T.number a.now i) (entry T.number b.now i) }
+{
+    table!(
+        T::compare,
+        code,
+        out,
+        a,
+        b,
+        count,
+        Equal,
+        NotEqual,
+        Less,
+        LessEqual,
+        Greater,
+        GreaterEqual
+    )
+}
+
+/// The first `count` numbers of `a`, each raised to one exponent (docs/LANGUAGE.md, "Opcodes").
+pub fn raise<T: Native>(out: &mut [T], a: &[T], exponent: u64, count: usize)
+    requires out { count ≤ length out.old }
+    requires a { count ≤ length a.now }
+    ensures length { length out.new ≡ length out.old }
+    ensures each { (i : ℕ) → i < count → entry T.number out.new i ≡ value Code.Power T.elem (entry T.number a.now i) (pos exponent) }
+{
+    for i in 0..count {
+        out[i] = T::raise(a[i], exponent);
+    }
+}
+
+/// The first `count` numbers of `a` in another type, wrapped where they don't fit (docs/LANGUAGE.md, "Opcodes").
+pub fn convert<T: Native, U: Native>(out: &mut [U], a: &[T], count: usize)
+    requires out { count ≤ length out.old }
+    requires a { count ≤ length a.now }
+    ensures length { length out.new ≡ length out.old }
+    ensures each { (i : ℕ) → i < count → entry U.number out.new i ≡ value Code.Identity U.elem (entry T.number a.now i) (pos 0) }
+{
+    for i in 0..count {
+        out[i] = U::from_bits(a[i].bits());
+    }
+}
+
+/// The first `count` values of RANGE from a position on, counted from 0 (docs/LANGUAGE.md, "Opcodes").
+pub fn count_up<T: Native>(out: &mut [T], position: u64, count: usize)
+    requires out { count ≤ length out.old }
+    requires few { position + count ≤ 1048576 }
+    ensures length { length out.new ≡ length out.old }
+    ensures each { (i : ℕ) → i < count → entry T.number out.new i ≡ value Code.Range T.elem (pos (position + i)) (pos 0) }
+{
+    for i in 0..count {
+        out[i] = T::from_bits(position + i as u64);
+    }
+}
+
+/// Calls `f`, which gives the values of a code, at the first `count` numbers of two lists.
+#[inline(always)]
+fn zip_with<T: Native, U: Native, F: Fn(T, T) -> U>(
+    _code: Code,
+    out: &mut [U],
+    a: &[T],
+    b: &[T],
+    count: usize,
+    f: F,
+)
+    requires out { count ≤ length out.old }
+    requires a { count ≤ length a.now }
+    requires b { count ≤ length b.now }
+    requires callable { F.IsAlwaysCallable f }
+    requires values { (x y : T) (z : U) → F.post f x y z → U.number z ≡ value _code U.elem (T.number x) (T.number y) }
+    ensures length { length out.new ≡ length out.old }
+    ensures each { (i : ℕ) → i < count → entry U.number out.new i ≡ value _code U.elem (entry T.number a.now i) (entry T.number b.now i) }
+{
+    for i in 0..count {
+        out[i] = f(a[i], b[i]);
+    }
+}
