@@ -6,9 +6,9 @@ use Rattle.std.proofs.lemmas.Bool.{and_parts, and_from, eqb-true, eq-eqb, ltb-tr
 use Rattle.std.proofs.lemmas.List.{get_or-set_same, get_or-set_other, length-set, length-append, length-replicate, take_all, take_more}
 use Rattle.arr_sets.specs.Bits.{meets}
 use Rattle.arr_view.specs.Strided.{Strided}
-use Rattle.arr_view.specs.Views.{elements, has, is_view, overlap, share}
+use Rattle.arr_view.specs.Views.{elements, has, is_view, overlap, share, most_elements}
 use Rattle.arr_overlap.specs.Classes.{MarkedUpTo, overlaps_among, view_at}
-use Rattle.arr_overlap.specs.Marks.{Marks, most}
+use Rattle.arr_overlap.specs.Marks.{Marks}
 use Rattle.arr_overlap.proofs.Marking.{elements_below}
 
 -- ---- two rows of marks meet exactly where the lists share a number
@@ -69,27 +69,27 @@ bit_within [] i e = absurd (false≢true e)
 bit_within (b ∷ bits) zero e = omega arith
 bit_within (b ∷ bits) (suc i) e = let h = bit_within bits i e in omega arith
 
-element_within : (es : List ℕ) (x : ℕ) → list_all (λ e. nat_lt e most) es ≡ true → has es x ≡ true → x < most
+element_within : (es : List ℕ) (x : ℕ) → list_all (λ e. nat_lt e most_elements) es ≡ true → has es x ≡ true → x < most_elements
 element_within [] x all e = absurd (false≢true e)
 element_within (y ∷ es) x all e =
-    let p = and_parts (nat_lt y most) _ all in
+    let p = and_parts (nat_lt y most_elements) _ all in
     or_cases (x == y) (has es x) _ e
-    (λ h. let same : x ≡ y = eqb-true x y h in let low : y < most = ltb-true y most p.0 in omega arith)
+    (λ h. let same : x ≡ y = eqb-true x y h in let low : y < most_elements = ltb-true y most_elements p.0 in omega arith)
     (λ h. element_within es x p.1 h)
 
-pub marks_meet : (bits others : List Bool) (es fs : List ℕ) → Marks bits es → Marks others fs → list_all (λ e. nat_lt e most) es ≡ true → meets bits others ≡ share es fs
+pub marks_meet : (bits others : List Bool) (es fs : List ℕ) → Marks bits es → Marks others fs → list_all (λ e. nat_lt e most_elements) es ≡ true → meets bits others ≡ share es fs
 marks_meet bits others es fs m n below =
     same_tests (meets bits others) (share es fs)
     (λ e.
     let r = met_at bits others e in
-    let long : length bits ≡ most = m.long in
+    let long : length bits ≡ most_elements = m.long in
     let i : ℕ = r.at in
     let low : i < length bits = bit_within bits r.at r.here in
-    let inside : i < most = omega arith in
+    let inside : i < most_elements = omega arith in
     at_shared es fs r.at (sym (m.each i inside) ∙ r.here) (sym (n.each i inside) ∙ r.there))
     (λ e.
     let r = shared_at es fs e in
-    let inside : r.at < most = element_within es r.at below r.here in
+    let inside : r.at < most_elements = element_within es r.at below r.here in
     at_met bits others r.at (m.each r.at inside ∙ r.here) (n.each r.at inside ∙ r.there))
 
 -- ---- marks of one more view

@@ -1,7 +1,8 @@
 pub mod Parts
 pub mod Marking
 pub mod Apart
-pub mod Ranges
 pub mod Spacing
+pub mod Smaller
+pub mod Columns
 mod ClassesSeen
 mod ClassesMeet

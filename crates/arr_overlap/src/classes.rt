@@ -34,15 +34,6 @@ impl Model for Classes {
     ghost invariant = { λ c. (length c.views.keys ≤ 1048576) × (list_all is_view c.views.keys ≡ true) × (c.rows.items ≡ overlaps_among c.views.keys) };
 }
 
-/// An equal view.
-fn copied(view: &View) -> View
-    ensures value { result ≡ view.now }
-    ensures lawful { IsTrue (is_view result) }
-{
-    let _base = view.base();
-    view.copied()
-}
-
 /// The elements of each view, marked in a row of bits.
 fn all_marked(alloc: Global, views: &[View]) -> Result<Vec<Bits>, NoMemory>
     ensures { IfOk result (λ marks. MarkedUpTo (length views.now) marks.items views.now) }
@@ -105,7 +96,7 @@ impl Classes {
     {
         let mut first_views = IndexSet::new(alloc);
         for view in views {
-            first_views.insert(copied(view))?;
+            first_views.insert(view.copied())?;
         }
         let rows = rows_of(alloc, first_views.as_slice())?;
         Ok(Classes {

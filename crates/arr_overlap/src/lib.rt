@@ -15,6 +15,7 @@
 mod alike;
 mod classes;
 mod filters;
+mod fronts;
 mod meeting;
 
 pub use alike::identical;

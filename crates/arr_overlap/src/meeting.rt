@@ -5,18 +5,15 @@ ghost use Rattle.arr_overlap.specs.Marks.{Marks};
 use crate::NoMemory;
 use crate::filters::decided;
 use arr_sets::Bits;
-use arr_view::{View, Walk};
+use arr_view::{MOST_ELEMENTS, View, Walk};
 use std::alloc::Global;
-
-/// One more than the greatest element that a view may have.
-const MOST: u32 = 1_048_576;
 
 /// The elements of a view, marked in a row of bits.
 pub(crate) fn marked(alloc: Global, view: &View) -> Result<Bits, NoMemory>
     requires { IsTrue (is_view view.now) }
     ensures { IfOk result (λ bits. Marks bits (elements view.now)) }
 {
-    let mut bits = Bits::new(alloc, MOST)?;
+    let mut bits = Bits::new(alloc, MOST_ELEMENTS)?;
     for element in Walk::new(view) {
         bits.insert(element);
     }
@@ -30,7 +27,7 @@ pub fn repeats(alloc: Global, view: &View) -> Result<bool, NoMemory>
     if view.positions() == 1 {
         return Ok(false);
     }
-    let mut bits = Bits::new(alloc, MOST)?;
+    let mut bits = Bits::new(alloc, MOST_ELEMENTS)?;
     for element in Walk::new(view) {
         if bits.has(element) {
             return Ok(true);
