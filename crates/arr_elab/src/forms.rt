@@ -29,7 +29,7 @@ use std::alloc::Global;
 const MOST_ELEMENTS: u64 = 1_048_576;
 
 /// The array of a value where no literal may stand.
-fn array_of(value: Value) -> Result<Array, ElabFault>
+pub(crate) fn array_of(value: Value) -> Result<Array, ElabFault>
     ensures { (s : State) → Reads (spec.array_of value s) result s }
 {
     match value {
@@ -50,7 +50,7 @@ pub(crate) fn array(alloc: Global, reader: &mut Reader, of: &Expr) -> Result<Arr
 
 /// The value of an expression.
 #[cycle(expression)]
-fn value(alloc: Global, reader: &mut Reader, of: &Expr) -> Result<Value, ElabFault>
+pub(crate) fn value(alloc: Global, reader: &mut Reader, of: &Expr) -> Result<Value, ElabFault>
     ensures { Reads (valued (prepared of.now) reader.old) result reader.new }
 {
     let prepared = prepared(alloc, reader, of)?;

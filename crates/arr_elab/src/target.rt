@@ -22,7 +22,7 @@ use arr_view::View;
 use std::alloc::Global;
 
 /// Whether two shapes are the same.
-fn same_lists(left: &[u32], right: &[u32]) -> bool
+pub(crate) fn same_lists(left: &[u32], right: &[u32]) -> bool
     ensures { result ≡ same_lists left.now right.now }
 {
     left == right
