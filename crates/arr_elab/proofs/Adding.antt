@@ -7,7 +7,7 @@ use Rattle.arr_num.specs.Numbers.{in_type}
 use Rattle.arr_view.specs.Strided.{Strided}
 use Rattle.arr_view.specs.Views.{positions, whole_view}
 use Rattle.arr_ops.specs.declared.op.Op.{Op}
-use Rattle.arr_ops.specs.Formed.{same_elem}
+use Rattle.arr_num.specs.Types.{same_elem}
 use Rattle.arr_shape.specs.Shapes.{checked_shape, checked_axis, broadcast}
 use Rattle.arr_shape.specs.Views.{spread, transpose, reshape, strided}
 use Rattle.arr_shape.specs.Slices.{slice}
@@ -30,7 +30,8 @@ use Rattle.arr_elab.specs.declared.step.Step.TheVariants.{Act}
 use Rattle.arr_elab.specs.declared.step.Step.TheVariants as step
 use Rattle.arr_elab.specs.State.{State, Reading, Checked, and_then, ◌>>=◌, pure, stands_for, fresh, live, most_live}
 use Rattle.arr_elab.specs.Steps.{deeds}
-use Rattle.arr_elab.specs.Codes.{elem_of, binary_code, spelled}
+use Rattle.arr_elab.specs.Codes.{elem_of, binary_code}
+use Rattle.arr_syntax.specs.Grammar.{signed}
 use Rattle.arr_elab.specs.Expressions.{onto, pending, seen, settled, array_of, array, written, found, lookup, named, literal, unary, cast, power, joined, binary, fold, range, filled, full, bounds, index, broadcasted, transposed, reshaped, strided_anew}
 use Rattle.arr_elab.proofs.Sound.{needed, by_rule}
 
@@ -140,7 +141,7 @@ named_adds word s r e =
     looked a.0.0.elem a.0.0.view (count s + 0) a.0.1 r a.2 (omega arith)
 
 pub literal_adds : (at : Place) (negative : Bool) (size : ℕ) → Adds waits 0 (literal at negative size)
-literal_adds at negative size s r e = at_once waits (count s + 0) s (Ready (value.Literal at (spelled negative size))) r e (omega arith)
+literal_adds at negative size s r e = at_once waits (count s + 0) s (Ready (value.Literal at (signed negative size))) r e (omega arith)
 
 pub unary_adds : (at : Place) (c : Code16) (of : Reading Prepared) (n : ℕ) → Adds waits n of → Adds waits (n + 1) (unary at c of)
 unary_adds at c of n h s r e =

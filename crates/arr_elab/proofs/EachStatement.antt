@@ -14,7 +14,7 @@ use Rattle.arr_ops.specs.declared.op.Operand.TheVariants as operand
 use Rattle.arr_ops.specs.declared.gather.Gather.{Gather as GatherOp}
 use Rattle.arr_ops.specs.declared.gather.Scatter.{Scatter as ScatterOp}
 use Rattle.arr_ops.specs.Gathers.{is_gather, is_scatter}
-use Rattle.arr_ops.specs.Formed.{same_elem}
+use Rattle.arr_num.specs.Types.{same_elem, same_elem_is, same_elem_refl}
 use Rattle.arr_shape.specs.Views.{spread}
 use Rattle.arr_shape.proofs.Consecutive.{lists_same}
 use Rattle.arr_syntax.specs.declared.refusal.Place.{Place}
@@ -34,7 +34,7 @@ use Rattle.arr_elab.specs.Expressions.{operation, onto, taken, written, settled,
 use Rattle.arr_elab.specs.Outcome.{prepared, assigned, stored, bound, bind, forget, gather_arrays, scatter_arrays, effect, begin, statement, statements}
 use Rattle.arr_elab.specs.Recording.{Scene, stands, may_act, may_gather, may_scatter}
 use Rattle.arr_elab.proofs.Derived.{not_true, derived_spread}
-use Rattle.arr_elab.proofs.Scenes.{Grows, Stands, with_base, grows_on, stands_on, stands_derived, stands_test, elem_self, elem_same}
+use Rattle.arr_elab.proofs.Scenes.{Grows, Stands, with_base, grows_on, stands_on, stands_derived, stands_test}
 use Rattle.arr_elab.proofs.Keeping.{Keeps, keeps_act, keeps_gather, keeps_scatter, keeps_done, keeps_cut, keeps_begun, keeps_name, keeps_forgotten}
 use Rattle.arr_elab.proofs.Shaped.{view_shape}
 use Rattle.arr_elab.proofs.Waiting.{Pends, pends_copy, pends_number, may_store}
@@ -103,7 +103,7 @@ stored_leaves target equals (Open p) scene s r k t h e = by (same_lists p.shape 
     by : (b : Bool) → same_lists p.shape target.view.lengths ≡ b → cond b direct apart s ≡ Ok r → Leaves r
     by true f e =
         let tests = both_needed (same_elem target.elem p.op.to) (not (repeats target.view)) equals TypeMismatch OutputRepeats s _ r e in
-        stores p.shape p.op target scene s r k h t (elem_same target.elem p.op.to tests.0) (sym (lists_same p.shape target.view.lengths f)) tests.1 tests.2
+        stores p.shape p.op target scene s r k h t (same_elem_is target.elem p.op.to tests.0) (sym (lists_same p.shape target.view.lengths f)) tests.1 tests.2
     by false f e =
         after IsArray scene (written p s) _ r e (λ a f. written_reads p scene s a k h f)
         (λ a next g j i e. assigned_leaves target equals a.0 next a.1 r j (stands_on scene next target.elem target.view g t) i e)
@@ -183,7 +183,7 @@ scatter_leaves at target index values scene s r k h i j e =
     let shapes = needed (same_lists index.view.lengths values.view.lengths) at ShapeMismatch s _ r types.1 in
     let once = needed (not (repeats target.view)) at OutputRepeats s _ r shapes.1 in
     let g : ScatterOp = scatter_of target index values in
-    let there : Stands scene target.elem values.view = subst (λ t. Stands scene t values.view) (sym (elem_same target.elem values.elem types.0)) j in
+    let there : Stands scene target.elem values.view = subst (λ t. Stands scene t values.view) (sym (same_elem_is target.elem values.elem types.0)) j in
     let may : may_scatter scene g ≡ true =
     and_from (is_scatter g) _
     (and_from (list_all is_view (g.target ∷ g.index ∷ g.values ∷ [])) _ (three_views g.target g.index g.values h.placed.lawful i.placed.lawful j.placed.lawful)
@@ -196,7 +196,7 @@ scatter_leaves at target index values scene s r k h i j e =
 
 may_print : (scene : Scene) (t : Elem) (v : Strided) → Stands scene t v → may_act scene (operation code.Sync t t (taken v) None None) ≡ true
 may_print scene t v h =
-    let self : same_elem t t ≡ true = elem_self t in
+    let self : same_elem t t ≡ true = same_elem_refl t in
     let lawful : is_view v ≡ true = h.placed.lawful in
     let here : stands scene t v ≡ true = stands_test scene t v h in
     rw (self, lawful, here)

@@ -2,7 +2,7 @@
 use Rattle.std.proofs.Common.{◌≡◌, sym, ◌∙◌, ap, subst, ℕ, List, true, Some, None}
 use Rattle.std.specs.Prelude.{Ok, Err, Result}
 use Rattle.arr_num.specs.declared.code.Code.{Code}
-use Rattle.arr_ops.specs.Formed.{same_elem}
+use Rattle.arr_num.specs.Types.{same_elem}
 use Rattle.arr_ops.specs.declared.op.Operand.TheVariants as operand
 use Rattle.arr_view.specs.Strided.{Strided}
 use Rattle.arr_shape.specs.Shapes.{broadcast}

@@ -8,7 +8,8 @@ use Rattle.arr_view.specs.Strided.{Strided}
 use Rattle.arr_view.specs.Views.{elements, positions}
 use Rattle.arr_ops.specs.declared.op.Op.{Op}
 use Rattle.arr_ops.specs.Ops.{inputs, outputs}
-use Rattle.arr_ops.specs.Formed.{same_elem, well_formed, with_slot}
+use Rattle.arr_num.specs.Types.{same_elem}
+use Rattle.arr_ops.specs.Formed.{well_formed, with_slot}
 use Rattle.arr_ops.specs.declared.gather.Gather.{Gather}
 use Rattle.arr_ops.specs.declared.gather.Scatter.{Scatter}
 use Rattle.arr_ops.specs.Gathers.{is_gather, is_scatter}

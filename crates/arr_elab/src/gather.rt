@@ -5,7 +5,6 @@ ghost use Rattle.arr_elab.specs.Contract.{Reads};
 ghost use Rattle.arr_elab.specs.Outcome.{gather_arrays, scatter_arrays, effect};
 ghost use Rattle.arr_syntax.specs.declared.tree.Form.TheVariants as form;
 
-use crate::codes::same_elem;
 use crate::fault::ElabFault;
 use crate::forms::{array_of, value};
 use crate::reader::Reader;
@@ -54,7 +53,7 @@ fn scatter_arrays(
 ) -> Result<(), ElabFault>
     ensures { Reads (scatter_arrays at target index values reader.old) result reader.new }
 {
-    if !same_elem(target.elem, values.elem) {
+    if target.elem != values.elem {
         return Err(ElabFault::at(at, Kind::TypeMismatch));
     }
     if !same_lists(index.view.shape(), values.view.shape()) {

@@ -1,7 +1,7 @@
 ghost use Rattle.std.specs.Prelude.{◌≡◌, ◌-◌, ◌+◌, ◌^◌, ◌<◌, ◌≤◌, ◌↔◌, ◌⊎◌, [], min, length, vec_len, vec_capacity, Some, IfOk, IsErr, Contains};
 ghost use Rattle.std.specs.Io.{WritesAtMost};
 ghost use Rattle.std.specs.Io.KnownBytes.{WriteAppends};
-ghost use Rattle.arr_io.specs.Causes.{HasCause};
+ghost use Rattle.arr_io.specs.Causes.{CountsFailure, HasCause};
 
 use crate::source::raise;
 use crate::{Failed, NoMemory, Sink};
@@ -62,6 +62,10 @@ impl Sink for MemorySink {
         ensures fails { IsErr result ↔ (Contains self.old.fails.items self.new.calls
             ⊎ ((self.old.room ≡ vec_len self.old.bytes) × (0 < length from.now))) }
         ensures count { IfOk result (λ n. n ≡ min self.old.piece (min (length from.now) (self.old.room - vec_len self.old.bytes))) }
+        ensures room { self.new.room ≡ self.old.room }
+        ensures piece { self.new.piece ≡ self.old.piece }
+        ensures failing { self.new.fails.items ≡ self.old.fails.items }
+        ensures failed { CountsFailure self.old.failed self.new.failed result }
     {
         self.calls = self.calls.saturating_add(1);
         if self.fails.contains(&self.calls) {

@@ -1,7 +1,7 @@
 ghost use Rattle.std.specs.Prelude.{◌≡◌, ◌-◌, ◌+◌, ◌^◌, ◌<◌, ◌≤◌, ◌↔◌, drop, min, length, vec_len, Some, IfOk, IsErr, Contains};
 ghost use Rattle.std.specs.Io.{ReadsAtMost};
 ghost use Rattle.std.specs.Io.KnownBytes.{ReadConsumes};
-ghost use Rattle.arr_io.specs.Causes.{HasCause};
+ghost use Rattle.arr_io.specs.Causes.{CountsFailure, HasCause};
 
 use crate::source::{fill, raise};
 use crate::{Failed, Source};
@@ -36,6 +36,10 @@ impl Source for MemorySource {
         ensures called { self.new.calls ≡ min (self.old.calls + 1) (2 ^ 64 - 1) }
         ensures fails { IsErr result ↔ Contains self.old.fails.items self.new.calls }
         ensures count { IfOk result (λ n. n ≡ min self.old.piece (min (length into.old) (vec_len self.old.bytes - self.old.at))) }
+        ensures kept { self.new.bytes.items ≡ self.old.bytes.items }
+        ensures piece { self.new.piece ≡ self.old.piece }
+        ensures failing { self.new.fails.items ≡ self.old.fails.items }
+        ensures failed { CountsFailure self.old.failed self.new.failed result }
     {
         self.calls = self.calls.saturating_add(1);
         if self.fails.contains(&self.calls) {

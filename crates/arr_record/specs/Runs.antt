@@ -1,7 +1,7 @@
 -- Parts that run one after another, the slots being taken out after each list.
-use Rattle.std.specs.Prelude.{List, [], ◌∷◌, ◌++◌, Bool, true, ◌&&◌, nat_le, length, None}
+use Rattle.std.specs.Prelude.{List, [], ◌∷◌, ◌++◌, Bool, true, ◌&&◌, nat_le, length}
 use Rattle.arr_ops.specs.declared.op.Op.{Op}
-use Rattle.arr_ops.specs.Memory.{Memory, Slot, eager}
+use Rattle.arr_ops.specs.Memory.{Memory, Slot, eager, without_slots}
 use Rattle.arr_ops.specs.Formed.{is_formed}
 use Rattle.arr_ops.specs.Fits.{fits}
 use Rattle.arr_ops.specs.Gathers.{gathered, scattered, is_gather, is_scatter, gather_fits, scatter_fits}
@@ -9,9 +9,6 @@ use Rattle.arr_elab.specs.Steps.{printed}
 use Rattle.arr_record.specs.declared.part.Part.{Part}
 use Rattle.arr_record.specs.declared.part.Part.TheVariants.{Flush, Gather, Scatter}
 use Rattle.arr_record.specs.Parts.{most}
-
-abbrev pub without_slots : Memory → Memory
-without_slots m = record { bases = m.bases; slots = λ _. None }
 
 abbrev pub after_part : Memory → Part → Memory
 after_part m (Flush list) = without_slots (eager m list)

@@ -1,19 +1,23 @@
 //! The whole program: from the words and the bytes that come in to the bytes that go out.
 //!
-//! [`serve`] does all that the program does. Its contract is one relation, `Answers` in specs/Answers.antt: which status and which bytes
-//! a command may answer to a script. The arrays in it are the eager arrays of arr_elab, where each operation runs when its statement is
-//! reached and nothing is freed or put off; the lines are those of specs/Texts.antt. That the program records lists, frees bases and
-//! prints at flushes shows nowhere in it.
+//! [`serve`] does all that the program does. Its contract is one relation, `Serves` in specs/Answers.antt: which status and which
+//! bytes a command may answer to a script, and what the store is then, wherever the writing ended. The arrays in it are the eager
+//! arrays of arr_elab, where each operation runs when its statement is reached and nothing is freed or put off; the lines are those
+//! of specs/Texts.antt. That the program records lists and frees bases shows in the store alone: where a write failed, it is what
+//! the lists up to that write leave.
 //!
-//! Every other status has its cause in a clause: a fault of reading or writing comes only where the source or the sink counted one in
-//! this call. Want of memory alone may come anywhere.
+//! A fault of reading or writing is answered only where the source or the sink counted one in this call (clause `blames`), and an
+//! accepted script is not refused (`complete`). Want of memory alone may come anywhere. What follows from the relation for a caller
+//! stands in `laws.rt`.
 #![tactic(auto)]
 
+mod laws;
 mod lists;
 mod program;
 mod script;
 mod texts;
 mod words;
 
+pub use laws::{faults_are_counted, flushes_are_counted, statuses_say};
 pub use program::serve;
 pub use words::Command;

@@ -1,5 +1,5 @@
 //! Lists that run on the store, each printed when it has run.
-ghost use Rattle.std.specs.Prelude.{◌≡◌, ◌≤◌, ◌<◌, ◌^◌, ℕ, true, Some, OnOk, length};
+ghost use Rattle.std.specs.Prelude.{◌≡◌, ◌≤◌, ◌<◌, ◌*◌, ◌^◌, ℕ, true, Some, IsErrOf, OnOk, length};
 ghost use Rattle.std.specs.List.{flat_map, list_all};
 ghost use Rattle.arr_ops.specs.Fits.{fits};
 ghost use Rattle.arr_ops.specs.Formed.{is_formed};
@@ -8,7 +8,7 @@ ghost use Rattle.arr_record.specs.Runs.{after_list, after_lists, each_fits, is_s
 ghost use Rattle.arr_store.specs.Slots.{slots_of};
 ghost use Rattle.arr_run.specs.Texts.{array_text};
 ghost use Rattle.arr_run.specs.Shown.{AllShow, Shows, slot_text, slots_text};
-ghost use Rattle.arr_run.specs.Lists.{Caused, CountsBelow, RisesBy, Wrote, lists_text, memory_of};
+ghost use Rattle.arr_run.specs.Lists.{Caused, CountsBelow, OnRan, RisesBy, StoppedIn, Wrote, lists_text, memory_of};
 
 use crate::texts::push_array;
 use arr_io::{Sink, WriteFault, write_all};
@@ -75,8 +75,8 @@ fn run_list<K: Sink>(
     requires counts { CountsBelow (2 ^ 61) store.old }
     ensures wrote { Wrote result (K.written sink.old) (K.written sink.new) (flat_map array_text (printed (memory_of store.old) ops.now)) }
     ensures cause { Caused (K.faults sink.old) (K.faults sink.new) result }
-    ensures memory { OnOk result (memory_of store.new ≡ after_list (memory_of store.old) ops.now) }
-    ensures counts { OnOk result (RisesBy (2 ^ 32) store.old store.new) }
+    ensures memory { OnRan result (memory_of store.new ≡ after_list (memory_of store.old) ops.now) }
+    ensures counts { OnRan result (RisesBy (2 ^ 32) store.old store.new) }
 {
     let Ok(mut slots) = Slots::for_list(alloc, ops) else {
         return Err(RunFault::NoMemory);
@@ -102,6 +102,9 @@ pub(crate) fn run_lists<K: Sink>(
     ensures wrote { Wrote result (K.written sink.old) (K.written sink.new) (lists_text (memory_of store.old) lists.now) }
     ensures cause { Caused (K.faults sink.old) (K.faults sink.new) result }
     ensures memory { OnOk result (memory_of store.new ≡ after_lists (memory_of store.old) lists.now) }
+    ensures counts { OnOk result (RisesBy (length lists.now * 2 ^ 32) store.old store.new) }
+    ensures stopped { IsErrOf result RunFault.WriteFault
+        → StoppedIn (memory_of store.old) lists.now (K.written sink.old) (K.written sink.new) store.old store.new }
 {
     for list in lists {
         run_list(alloc, list.ops(), store, sink)?;

@@ -1,15 +1,14 @@
 //! What the program does.
-ghost use Rattle.std.specs.Prelude.{◌≡◌, ◌≢◌, ◌⊎◌, ◌≤◌, ◌<◌, ◌^◌, [], List, ℕ, map, length, true, None, Some, IsSome};
+ghost use Rattle.std.specs.Prelude.{◌≡◌, ◌⊎◌, ◌≤◌, ◌<◌, ◌*◌, ◌^◌, List, ℕ, map, length, true, None, Some, IsSome};
 ghost use Rattle.std.specs.List.{list_all};
 ghost use Rattle.std.specs.String.{string_bytes};
-ghost use Rattle.std.specs.Io.KnownBytes.{Appends};
 ghost use Rattle.arr_io.specs.Causes.{Rose};
 ghost use Rattle.arr_elab.specs.declared.step.Step.{Step};
 ghost use Rattle.arr_ops.specs.Formed.{is_formed};
 ghost use Rattle.arr_record.specs.Runs.{after_lists, each_fits, is_sized};
 ghost use Rattle.arr_store.specs.Stored.{cells};
-ghost use Rattle.arr_run.specs.Answers.{Accepts, Answered, BrokenOff, CutShort, IsReadOut};
-ghost use Rattle.arr_run.specs.Lists.{CountsBelow, Ended, lists_text, memory_of};
+ghost use Rattle.arr_run.specs.Answers.{Accepts, Blames, IsReadOut, Serves};
+ghost use Rattle.arr_run.specs.Lists.{CountsBelow, Ended, RisesBy, StoppedIn, lists_text, memory_of};
 ghost use Rattle.arr_run.specs.Texts.{refusal_text};
 ghost use Rattle.arr_run.specs.Words.{command_of};
 
@@ -45,7 +44,8 @@ const OUT_OF_MEMORY: u8 = 5;
 /// - 1: the script is refused; the line of the refusal was written, and the store is as it was.
 /// - 2: the words name no command; the usage line was written, and the store is as it was.
 /// - 3: a read of the script failed; nothing was written, and the store is as it was.
-/// - 4: a write failed; a front of the text was written.
+/// - 4: a write failed; a front of the text was written. With an accepted script the store is what the lists leave up to the one in whose
+///   arrays the first missing byte stands; else it is as it was.
 /// - 5: no memory is left; a front of the text was written. With words that name no command it never comes.
 pub fn serve<S: Source, C: Source, K: Sink>(
     alloc: Global,
@@ -59,32 +59,21 @@ pub fn serve<S: Source, C: Source, K: Sink>(
     requires loads { store.old.loads < 2 ^ 59 }
     requires stores { store.old.stores < 2 ^ 59 }
     requires made { store.old.made < 2 ^ 59 }
-    ensures statuses { result < 6 }
-    // Words that name no command.
-    ensures wrong_words { command_of (map string_bytes words.now) ≡ None → (result ≡ 2) ⊎ (result ≡ 4) }
-    ensures right_words { IsSome (command_of (map string_bytes words.now)) → result ≢ 2 }
-    // What was written.
-    ensures answer { result < 3 → Answered (command_of (map string_bytes words.now)) (S.left script.old) result (K.written sink.old) (K.written sink.new) }
-    ensures silent { result ≡ 3 → Appends (K.written sink.old) (K.written sink.new) [] }
-    ensures cut_short { result ≡ 4 → CutShort (command_of (map string_bytes words.now)) (S.left script.old) (K.written sink.old) (K.written sink.new) }
-    ensures broken_off { result ≡ 5 → BrokenOff (command_of (map string_bytes words.now)) (S.left script.old) (K.written sink.old) (K.written sink.new) }
+    // What was written, and what the store is then.
+    ensures served { Serves (command_of (map string_bytes words.now)) (S.left script.old) (C.left proof.old)
+        result (K.written sink.old) (K.written sink.new) store.old store.new }
+    ensures emptied { result ≡ 0 → (b : ℕ) → cells store.new b ≡ None }
     // Every fault has its cause.
-    ensures read_fault { result ≡ 3 → Rose (S.faults script.old) (S.faults script.new) }
-    ensures write_fault { result ≡ 4 → Rose (K.faults sink.old) (K.faults sink.new) }
-    ensures read_faults { S.faults script.old ≤ S.faults script.new }
-    ensures write_faults { K.faults sink.old ≤ K.faults sink.new }
+    ensures blames { Blames result (S.faults script.old) (S.faults script.new)
+        (K.faults sink.old) (K.faults sink.new) }
     // An accepted script runs, unless a fault or want of memory came.
     ensures complete { (steps : List Step) → IsSome (command_of (map string_bytes words.now)) → Accepts (S.left script.old) steps
         → (Rose (S.faults script.old) (S.faults script.new) → ⊥) → (Rose (K.faults sink.old) (K.faults sink.new) → ⊥)
         → (result ≡ 0) ⊎ (result ≡ 5) }
     // What was read.
     ensures read_out { result < 2 → IsReadOut (S.left script.old) (S.left script.new) }
+    ensures script { command_of (map string_bytes words.now) ≡ None → script.new ≡ script.old }
     ensures proof { proof.new ≡ proof.old }
-    // The store.
-    ensures emptied { result ≡ 0 → (b : ℕ) → cells store.new b ≡ None }
-    ensures refused { result ≡ 1 → store.new ≡ store.old }
-    ensures unread { result ≡ 3 → store.new ≡ store.old }
-    ensures idle { command_of (map string_bytes words.now) ≡ None → store.new ≡ store.old }
 {
     match named_command(words) {
         Some(Command::Run) => run(alloc, store, script, sink),
@@ -101,27 +90,21 @@ fn run<S: Source, K: Sink>(alloc: Global, store: &mut Store, script: &mut S, sin
     requires loads { store.old.loads < 2 ^ 59 }
     requires stores { store.old.stores < 2 ^ 59 }
     requires made { store.old.made < 2 ^ 59 }
-    ensures statuses { (result < 6) × (result ≢ 2) }
-    ensures answer { result < 3 → Answered (Some Command.Run) (S.left script.old) result (K.written sink.old) (K.written sink.new) }
-    ensures silent { result ≡ 3 → Appends (K.written sink.old) (K.written sink.new) [] }
-    ensures cut_short { result ≡ 4 → CutShort (Some Command.Run) (S.left script.old) (K.written sink.old) (K.written sink.new) }
-    ensures broken_off { result ≡ 5 → BrokenOff (Some Command.Run) (S.left script.old) (K.written sink.old) (K.written sink.new) }
-    ensures read_fault { result ≡ 3 → Rose (S.faults script.old) (S.faults script.new) }
-    ensures write_fault { result ≡ 4 → Rose (K.faults sink.old) (K.faults sink.new) }
-    ensures read_faults { S.faults script.old ≤ S.faults script.new }
-    ensures write_faults { K.faults sink.old ≤ K.faults sink.new }
+    ensures served { Serves (Some Command.Run) (S.left script.old) None
+        result (K.written sink.old) (K.written sink.new) store.old store.new }
+    ensures emptied { result ≡ 0 → (b : ℕ) → cells store.new b ≡ None }
+    ensures blames { Blames result (S.faults script.old) (S.faults script.new)
+        (K.faults sink.old) (K.faults sink.new) }
     ensures complete { (steps : List Step) → Accepts (S.left script.old) steps
         → (Rose (S.faults script.old) (S.faults script.new) → ⊥) → (Rose (K.faults sink.old) (K.faults sink.new) → ⊥)
         → (result ≡ 0) ⊎ (result ≡ 5) }
     ensures read_out { result < 2 → IsReadOut (S.left script.old) (S.left script.new) }
-    ensures emptied { result ≡ 0 → (b : ℕ) → cells store.new b ≡ None }
-    ensures refused { result ≡ 1 → store.new ≡ store.old }
-    ensures unread { result ≡ 3 → store.new ≡ store.old }
 {
     let bytes = match read_up_to(alloc, script, MOST_BYTES as u64 + 1) {
         Ok(bytes) => bytes,
         Err(ReadFailure::NoMemory) => return OUT_OF_MEMORY,
-        Err(_) => return READ_FAULT,
+        Err(ReadFailure::ReadFault) => return READ_FAULT,
+        Err(ReadFailure::TooLong) => unreachable!(),
     };
     match lists_of(alloc, &bytes) {
         Ok(lists) => run_all(alloc, &lists, store, sink),
@@ -141,6 +124,9 @@ fn run_all<K: Sink>(alloc: Global, lists: &[Flush], store: &mut Store, sink: &mu
     ensures later { K.faults sink.old ≤ K.faults sink.new }
     ensures cause { result ≡ 4 → Rose (K.faults sink.old) (K.faults sink.new) }
     ensures memory { result ≡ 0 → memory_of store.new ≡ after_lists (memory_of store.old) lists.now }
+    ensures counts { result ≡ 0 → RisesBy (length lists.now * 2 ^ 32) store.old store.new }
+    ensures stopped { result ≡ 4
+        → StoppedIn (memory_of store.old) lists.now (K.written sink.old) (K.written sink.new) store.old store.new }
 {
     match run_lists(alloc, lists, store, sink) {
         Ok(()) => DONE,

@@ -5,8 +5,8 @@ use Rattle.std.proofs.lemmas.Bool.{cond-true, cond-false, eq-eqb, ne_eqb}
 use Rattle.std.proofs.Math.Nat.{div-le_self}
 use Rattle.arr_view.specs.Views.{positions, whole_strides}
 use Rattle.arr_view.proofs.Strides.{rest_turn, whole_turn}
-use Rattle.arr_view.proofs.view.gapless.Goals as goal
-use Rattle.arr_view.proofs.view.gapless.Goals.{then-length-eq1, else-length-eq1}
+use Rattle.arr_view.proofs.view.gapless_strides.Goals as goal
+use Rattle.arr_view.proofs.view.gapless_strides.Goals.{then-length-eq1, else-length-eq1}
 
 pub loop-length-preserved : goal.loop-length-preserved
 loop-length-preserved c =

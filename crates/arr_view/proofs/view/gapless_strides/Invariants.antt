@@ -1,6 +1,6 @@
 use Rattle.std.proofs.Common.{◌≡◌, ◌≤◌, ◌++◌, drop, length}
 use Rattle.arr_view.specs.Views.{positions, whole_strides}
-use Rattle.arr_view.proofs.view.gapless.Given as goal
+use Rattle.arr_view.proofs.view.gapless_strides.Given as goal
 
 abbrev pub invariant-loop-length : goal.invariant-loop-length
 invariant-loop-length l = record {

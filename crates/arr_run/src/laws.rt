@@ -1,0 +1,23 @@
+//! What follows from the contract of [`serve`](crate::serve). Each function does nothing: its contract is the law.
+ghost use Rattle.arr_run.specs.Laws.{FaultsAreCounted, PrintsEagerly, RanInArrays, RanInHead, RanWhole, RefusalKeepsStore, RunIsKnown};
+
+/// What the statuses of `run` say, taken from the relation `Serves` alone (docs/LANGUAGE.md, "The program"): at 0 the script is
+/// accepted, and its eager arrays are all that was written; at 1 the store is as it was; 2 never comes.
+pub fn statuses_say()
+    ensures done { PrintsEagerly }
+    ensures refused { RefusalKeepsStore }
+    ensures known { RunIsKnown }
+{}
+
+/// Over sources and a sink whose counts of faults don't change, as those that never fail, `serve` answers neither 3 nor 4.
+pub fn faults_are_counted()
+    ensures { FaultsAreCounted }
+{}
+
+/// How many flushes count as run when a text of flushes was written so far: those before the one in whose head the first missing
+/// byte stands; with the one in whose array lines it stands; all of them where none is missing.
+pub fn flushes_are_counted()
+    ensures head { RanInHead }
+    ensures arrays { RanInArrays }
+    ensures whole { RanWhole }
+{}
