@@ -1,12 +1,11 @@
 use Rattle.std.proofs.Common.{◌≡◌, ◌<◌, ◌^◌, List, get_or, length, sym, ap, ◌∙◌, arith}
 use Rattle.std.specs.List.{list_all}
-use Rattle.arr_ops.specs.declared.op.Op.{Op}
-use Rattle.arr_ops.specs.Formed.{is_formed}
+use Rattle.arr_record.specs.declared.part.Part.{Part}
 use Rattle.arr_ops.specs.Memory.{empty}
-use Rattle.arr_record.specs.Runs.{after_lists, each_fits, is_sized, printed_lists}
+use Rattle.arr_record.specs.Runs.{after_parts, each_fits, is_part, printed_parts}
 use Rattle.arr_record.proofs.Following.{along_none, along_more, all_written, ready}
-use Rattle.arr_record.proofs.Walk.{recording, all_formed, all_sized}
-use Rattle.arr_record.proofs.recording.flushes.Goals as goal
+use Rattle.arr_record.proofs.Walk.{recording, all_parts}
+use Rattle.arr_record.proofs.recording.parts.Goals as goal
 
 pub loop-step-init : goal.loop-step-init
 loop-step-init c = along_none c.args.steps.now c.new-writer.result c.new-owners.result c.requires.recording c.new-writer.ensures c.new-owners.ensures.owned c.new-owners.ensures.made
@@ -24,24 +23,21 @@ loop-step-preserved c =
     c.follow.new.writer c.follow.new.owners small
     (c.in_ok-follow.ensures (ready c.args.steps.now c.loop-step.step-index c.loop-step.writer c.loop-step.owners c.step-item.result c.loop-step.invariant below here small))
 
-pub returns-clause-lists : goal.returns-clause-lists
-returns-clause-lists c =
-    c.into_flushes.ensures
+pub returns-clause-parts : goal.returns-clause-parts
+returns-clause-parts c =
+    c.into_parts.ensures
     ∙ all_written c.args.steps.now c.loop-step.step-index c.loop-step.writer c.free_loose.new.writer c.cut.new.self c.loop-step.owners c.release_all.new.self c.loop-step.invariant (omega arith)
     c.in_ok-release_all.ensures c.in_ok-free_loose.ensures.freed c.in_ok-cut.ensures
 
 pub returns-clause-formed : goal.returns-clause-formed
-returns-clause-formed c = ap (list_all is_formed) (returns-clause-lists c) ∙ all_formed c.args.steps.now c.requires.recording
-
-pub returns-clause-sized : goal.returns-clause-sized
-returns-clause-sized c = ap (list_all is_sized) (returns-clause-lists c) ∙ all_sized c.args.steps.now c.requires.recording
+returns-clause-formed c = ap (list_all is_part) (returns-clause-parts c) ∙ all_parts c.args.steps.now c.requires.recording
 
 pub returns-clause-fitting : goal.returns-clause-fitting
-returns-clause-fitting c = ap (each_fits empty) (returns-clause-lists c) ∙ (recording c.args.steps.now c.requires.recording).fitting
+returns-clause-fitting c = ap (each_fits empty) (returns-clause-parts c) ∙ (recording c.args.steps.now c.requires.recording).fitting
 
 pub returns-clause-prints : goal.returns-clause-prints
-returns-clause-prints c = ap (printed_lists empty) (returns-clause-lists c) ∙ (recording c.args.steps.now c.requires.recording).prints
+returns-clause-prints c = ap (printed_parts empty) (returns-clause-parts c) ∙ (recording c.args.steps.now c.requires.recording).prints
 
 pub returns-clause-emptied : goal.returns-clause-emptied
 returns-clause-emptied c =
-    λ b. ap (λ (lists : List (List Op)). (after_lists empty lists).bases b) (returns-clause-lists c) ∙ (recording c.args.steps.now c.requires.recording).emptied b
+    λ b. ap (λ (parts : List Part). (after_parts empty parts).bases b) (returns-clause-parts c) ∙ (recording c.args.steps.now c.requires.recording).emptied b

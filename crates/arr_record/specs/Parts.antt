@@ -1,4 +1,4 @@
--- The lists that run one after another: what is recorded, with FREEs and slots, cut at flushes.
+-- The parts of a script: lists of what is recorded, with FREEs and slots, and the gathers and scatters between them.
 use Rattle.std.specs.Prelude.{ℕ, suc, List, [], ◌∷◌, ◌++◌, Bool, false, not, ◌==◌, length, map, cond, Some, None}
 use Rattle.std.specs.List.{filter, list_any}
 use Rattle.arr_num.specs.declared.elem.Elem.{Elem}
@@ -9,24 +9,32 @@ use Rattle.arr_ops.specs.Ops.{outputs}
 use Rattle.arr_elab.specs.Steps.{with_slot, slot_from, slot_count}
 use Rattle.arr_elab.specs.Recording.{other_names}
 use Rattle.arr_elab.specs.declared.step.Step.{Step}
+use Rattle.arr_elab.specs.declared.step.Step.TheVariants as step
 use Rattle.arr_elab.specs.declared.step.Step.TheVariants.{Act, Name, Forget, Done, Cut}
+use Rattle.arr_record.specs.declared.part.Part.{Part}
+use Rattle.arr_record.specs.declared.part.Part.TheVariants as part
+use Rattle.arr_record.specs.declared.part.Part.TheVariants.{Flush}
 
 -- the most operations of a list
 abbrev pub most : ℕ
 most = 256
 
--- the lists cut so far, and the operations that wait
+-- the parts so far, and the operations that wait
 pub record Written : Type 0 where
-  pub lists : List (List Op)
+  pub parts : List Part
   pub waiting : List Op
 
 -- a waiting list that is not empty is cut
-abbrev pub cut_list : List (List Op) → List Op → List (List Op)
-cut_list lists [] = lists
-cut_list lists (op ∷ ops) = lists ++ (op ∷ ops) ∷ []
+abbrev pub cut_list : List Part → List Op → List Part
+cut_list parts [] = parts
+cut_list parts (op ∷ ops) = parts ++ Flush (op ∷ ops) ∷ []
 
 abbrev pub cut : Written → Written
-cut w = record { lists = cut_list w.lists w.waiting; waiting = [] }
+cut w = record { parts = cut_list w.parts w.waiting; waiting = [] }
+
+-- a gather or scatter stands behind what waits
+abbrev pub put : Written → Part → Written
+put w alone = record { parts = cut_list w.parts w.waiting ++ alone ∷ []; waiting = [] }
 
 abbrev pub cut_if : Bool → Written → Written
 cut_if test w = cond test (cut w) w
@@ -57,7 +65,7 @@ pub record State : Type 0 where
   pub live : List (ℕ × Elem)
 
 abbrev pub nothing_yet : State
-nothing_yet = record { written = record { lists = []; waiting = [] }; names = []; live = [] }
+nothing_yet = record { written = record { parts = []; waiting = [] }; names = []; live = [] }
 
 abbrev pub is_named : List (ℕ × ℕ) → ℕ × Elem → Bool
 is_named names base = list_any (λ (name : ℕ × ℕ). name.1 == base.0) names
@@ -75,6 +83,8 @@ made op = map (λ (o : Strided). (o.base, op.to)) (filter (λ _. op.makes) (outp
 
 abbrev pub after : State → Step → State
 after s (Act op) = record s { written = append s.written op; live = s.live ++ made op }
+after s (step.Gather g) = record s { written = put s.written (part.Gather g); live = s.live ++ (g.out.base, g.to) ∷ [] }
+after s (step.Scatter g) = record s { written = put s.written (part.Scatter g) }
 after s (Name n b) = record s { names = (n, b) ∷ other_names n s.names }
 after s (Forget n) = record s { names = other_names n s.names }
 after s Done = done s
@@ -88,5 +98,14 @@ after_all s (step ∷ steps) = after_all (after s step) steps
 abbrev pub ended : State → Written
 ended s = cut (done (record s { names = [] })).written
 
+abbrev pub parts_of : List Step → List Part
+parts_of steps = (ended (after_all nothing_yet steps)).parts
+
+-- the lists among parts: one for each flush
+abbrev pub lists_in : List Part → List (List Op)
+lists_in [] = []
+lists_in (Flush list ∷ parts) = list ∷ lists_in parts
+lists_in (_ ∷ parts) = lists_in parts
+
 abbrev pub flush_lists : List Step → List (List Op)
-flush_lists steps = (ended (after_all nothing_yet steps)).lists
+flush_lists steps = lists_in (parts_of steps)
