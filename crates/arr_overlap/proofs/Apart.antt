@@ -35,6 +35,9 @@ some_element v law =
     let long : length (elements v) ≡ positions v.lengths = length-map (places v.lengths v.strides (pos v.start)) to_place ∙ length-places v.lengths v.strides (pos v.start) (same_rank v law) in
     omega arith
 
+pub meets_itself : (v : Strided) → is_view v ≡ true → overlap v v ≡ true
+meets_itself v law = ap₂ (λ c d. c && d) (eq-eqb v.base v.base refl) (shares_itself (elements v) (some_element v law))
+
 pub identical_meet : (v w : Strided) → is_view v ≡ true → identical v w ≡ true → overlap v w ≡ true
 identical_meet v w law e =
     let a = and_parts (v.base == w.base) _ e in

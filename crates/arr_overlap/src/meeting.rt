@@ -1,5 +1,5 @@
-ghost use Rattle.std.specs.Prelude.{◌≡◌, IfOk, IsTrue};
-ghost use Rattle.arr_view.specs.Views.{elements, is_view, overlap, repeats};
+ghost use Rattle.std.specs.Prelude.{◌≡◌, IfOk};
+ghost use Rattle.arr_view.specs.Views.{elements, overlap, repeats};
 ghost use Rattle.arr_overlap.specs.Marks.{Marks};
 
 use crate::NoMemory;
@@ -10,9 +10,9 @@ use std::alloc::Global;
 
 /// The elements of a view, marked in a row of bits.
 pub(crate) fn marked(alloc: Global, view: &View) -> Result<Bits, NoMemory>
-    requires { IsTrue (is_view view.now) }
     ensures { IfOk result (λ bits. Marks bits (elements view.now)) }
 {
+    let _base = view.base();
     let mut bits = Bits::new(alloc, MOST_ELEMENTS)?;
     for element in Walk::new(view) {
         bits.insert(element);

@@ -12,13 +12,13 @@ loop-element-init c = record {
 
 pub insert-requires : goal.insert-requires
 insert-requires c =
-    let inside : c.in-Some.element < most_elements = below c.args.view.now _ _ c.in-Some.element c.requires (next_one _ _ _ _ _ c.loop-element.invariant.whole c.in-Some.ensures.steps) in
+    let inside : c.in-Some.element < most_elements = below c.args.view.now _ _ c.in-Some.element c.base-base.ensures.lawful (next_one _ _ _ _ _ c.loop-element.invariant.whole c.in-Some.ensures.steps) in
     let long = c.loop-element.invariant.marks.long in
     omega arith
 
 pub loop-element-preserved : goal.loop-element-preserved
 loop-element-preserved c =
-    let inside : c.in-Some.element < most_elements = below c.args.view.now _ _ c.in-Some.element c.requires (next_one _ _ _ _ _ c.loop-element.invariant.whole c.in-Some.ensures.steps) in
+    let inside : c.in-Some.element < most_elements = below c.args.view.now _ _ c.in-Some.element c.base-base.ensures.lawful (next_one _ _ _ _ _ c.loop-element.invariant.whole c.in-Some.ensures.steps) in
     record {
       whole = one_more _ _ _ _ _ c.loop-element.invariant.whole c.in-Some.ensures.steps;
       marks = subst (λ b. Marks b (c.loop-element.yielded ++ c.in-Some.element ∷ [])) (sym c.insert.ensures) (marks_more c.loop-element.bits c.loop-element.yielded c.in-Some.element c.loop-element.invariant.marks inside);
