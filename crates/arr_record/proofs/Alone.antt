@@ -1,21 +1,19 @@
 -- A gather or scatter behind the parts, where nothing waits.
 use Rattle.std.proofs.Common.{◌≡◌, ℕ, ◌+◌, ◌<◌, ◌≤◌, ℤ, List, [], ◌∷◌, ◌++◌, Bool, true, false, cond, ◌||◌, ◌&&◌, ◌⊎◌, inl, inr, ⊎_elim, refl, ap, ap₂, sym, subst, ◌∙◌, arith, length, length-append, append-nil, Option, Some, None}
-use Rattle.std.proofs.lemmas.Bool.{false≢true, eqb-true, ne_eqb}
+use Rattle.std.proofs.lemmas.Bool.{false≢true, eqb-true}
 use Rattle.std.proofs.lemmas.List.{length-map}
 use Rattle.std.specs.Prelude.{◌==◌, is_none}
-use Rattle.std.specs.List.{AllByRecursion, list_all}
+use Rattle.std.specs.List.{list_all}
 use Rattle.arr_num.specs.declared.elem.Elem.{Elem}
 use Rattle.arr_view.specs.Strided.{Strided}
-use Rattle.arr_view.specs.Views.{elements, positions, is_view, same_lists, repeats}
+use Rattle.arr_view.specs.Views.{elements, positions, is_view, same_lists}
 use Rattle.arr_ops.specs.declared.gather.Gather.{Gather}
 use Rattle.arr_ops.specs.declared.gather.Scatter.{Scatter}
-use Rattle.arr_ops.specs.declared.op.Op.{Op}
 use Rattle.arr_ops.specs.Memory.{Memory, Cell, Becomes, Keeps, changed, output_change, read, empty}
 use Rattle.arr_ops.specs.Fits.{meets_need}
 use Rattle.arr_ops.specs.Gathers.{numbers_in, picked, placed, gathered, scattered, is_gather, is_scatter, need, gather_fits, scatter_fits}
 use Rattle.arr_ops.proofs.Typed.{AllIn, CellFits, read_in}
 use Rattle.arr_ops.proofs.Tests.{both_left, both_right, all_of, or_cases, same_from_test}
-use Rattle.arr_ops.proofs.Fits.{or_first, or_second}
 use Rattle.arr_ops.proofs.FitsLaw.{all_append}
 use Rattle.arr_ops.proofs.Lengths.{length-elements}
 use Rattle.arr_ops.proofs.Spots.{strides_of}
@@ -24,7 +22,7 @@ use Rattle.arr_elab.specs.declared.step.Step.TheVariants as step
 use Rattle.arr_elab.specs.Steps.{Progress, run_step, shown}
 use Rattle.arr_record.specs.declared.part.Part.{Part}
 use Rattle.arr_record.specs.declared.part.Part.TheVariants as part
-use Rattle.arr_record.specs.Runs.{after_part, after_parts, printed_part, printed_parts, part_fits}
+use Rattle.arr_record.specs.Runs.{after_part, printed_part, printed_parts, part_fits}
 use Rattle.arr_record.proofs.Runs.{after_parts_more, printed_parts_more, each_fits_more}
 use Rattle.arr_record.proofs.Home.{place_of, place_more, InsideAmong}
 use Rattle.arr_record.proofs.Cells.{Stored, meets_stored, stored_output, absent_output}

@@ -7,7 +7,7 @@ use Rattle.arr_num.specs.declared.elem.Elem.{Elem}
 use Rattle.arr_num.specs.declared.elem.Elem.TheVariants.{U8, I32, I64, U64}
 use Rattle.arr_view.specs.Views.{has}
 use Rattle.arr_ops.specs.declared.op.Op.{Op}
-use Rattle.arr_ops.specs.Memory.{step, empty, changed, Drops, Keeps}
+use Rattle.arr_ops.specs.Memory.{step, changed, Drops, Keeps}
 use Rattle.arr_ops.specs.Formed.{well_formed}
 use Rattle.arr_ops.proofs.Pairs.{Pairs, All_weaker}
 use Rattle.arr_elab.specs.Steps.{Progress, shown}

@@ -8,7 +8,6 @@ use Rattle.arr_num.specs.declared.code.Code.{Code}
 use Rattle.arr_num.specs.declared.code.Code.TheVariants.{Sync}
 use Rattle.arr_ops.specs.declared.op.Op.{Op}
 use Rattle.arr_ops.specs.Memory.{Memory, Slot, eager, step, computed, lengths_of, slot_after}
-use Rattle.arr_ops.specs.Fits.{fits}
 use Rattle.arr_ops.proofs.Tests.{both_left, both_right}
 use Rattle.arr_elab.specs.declared.step.Step.TheVariants.{Act}
 use Rattle.arr_elab.specs.Steps.{Progress, run_step, shown, printed, slot_count, slots_to, slot_from, filled_after, with_slot}

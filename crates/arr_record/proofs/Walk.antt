@@ -1,5 +1,5 @@
 -- From the steps of a recording to the laws of its parts.
-use Rattle.std.proofs.Common.{◌≡◌, ℕ, ◌+◌, ◌<◌, ◌≤◌, suc, List, [], ◌∷◌, ◌++◌, Bool, true, false, cond, not, ◌||◌, ◌&&◌, inl, inr, refl, ap, ap₂, sym, subst, ◌∙◌, arith, length, length-append, append_assoc, append-nil, map, Option, Some, None}
+use Rattle.std.proofs.Common.{◌≡◌, ℕ, ◌+◌, ◌<◌, ◌≤◌, suc, List, [], ◌∷◌, ◌++◌, Bool, true, false, cond, not, ◌||◌, ◌&&◌, inl, inr, refl, ap, ap₂, sym, subst, ◌∙◌, arith, length, length-append, append-nil, map, Option, Some, None}
 use Rattle.std.proofs.lemmas.Bool.{false≢true, eqb-true, eq-eqb, ltb-true, ltb-false, le-ltb, le-leb, leb-true}
 use Rattle.std.proofs.lemmas.List.Folds.{list_any-append}
 use Rattle.std.specs.Prelude.{◌==◌, nat_lt, nat_le, is_some}
@@ -15,7 +15,6 @@ use Rattle.arr_ops.specs.Ops.{outputs, inputs, makes_base}
 use Rattle.arr_ops.specs.Memory.{Memory, Slot, empty, computed}
 use Rattle.arr_ops.specs.Memory as memory
 use Rattle.arr_ops.proofs.Pairs.{Pairs, All_weaker, Pairs_weaker, All_filter, Pairs_filter}
-use Rattle.arr_ops.specs.Formed.{is_formed}
 use Rattle.arr_ops.proofs.Tests.{or_cases, both_left, both_right, test_all}
 use Rattle.arr_ops.proofs.Fits.{or_first, or_second}
 use Rattle.arr_ops.proofs.FitsLaw.{all_append, all_map}
@@ -25,13 +24,13 @@ use Rattle.arr_ops.specs.declared.gather.Scatter.{Scatter}
 use Rattle.arr_ops.specs.Gathers.{is_gather, is_scatter}
 use Rattle.arr_elab.specs.declared.step.Step.TheVariants as step
 use Rattle.arr_elab.specs.declared.step.Step.TheVariants.{Act, Name, Forget, Done, Cut}
-use Rattle.arr_elab.specs.Steps.{Progress, not_begun, run_step, run_steps, shown, eager_arrays, slot_count, slot_from, with_slot}
+use Rattle.arr_elab.specs.Steps.{Progress, not_begun, run_step, run_steps, shown, slot_count, slot_from}
 use Rattle.arr_elab.specs.Recording.{Scene, opening, is_live, stands, may_act, may_gather, may_scatter, made_by, other_names, after_step, after_steps, is_recording, allowed}
 use Rattle.arr_ops.proofs.Spots.{all_two}
 use Rattle.arr_record.specs.Parts.{State, nothing_yet, most, cut_list, cut, next_op, made, done, unnamed, free_each, after, after_all, ended, parts_of}
 use Rattle.arr_record.specs.declared.part.Part.{Part}
 use Rattle.arr_record.specs.declared.part.Part.TheVariants as part
-use Rattle.arr_record.specs.Runs.{after_parts, printed_parts, each_fits, is_sized, is_part}
+use Rattle.arr_record.specs.Runs.{after_parts, printed_parts, each_fits, is_part}
 use Rattle.arr_record.specs.Ledger.{lives}
 use Rattle.arr_record.proofs.Loose.{Rising}
 use Rattle.arr_record.proofs.Runs.{shown_more, shown_at, content}

@@ -38,7 +38,7 @@ use Rattle.arr_syntax.specs.Grammar as grammar
 use Rattle.arr_syntax.specs.Grammar.{IsSign, IsKeyword, Rest, Level, Primary, Placed, ViewCall, Argument, Ends, Script, OneStatement, operator, comparison, index_at, name_of, word_at, unary_at, binary_at}
 use Rattle.arr_syntax.specs.Machine as machine
 use Rattle.arr_syntax.specs.Machine.{level, sign_level, rank, operate, goes, give, leaves, fits, step, again, wanted_by, wanted, fresh, fill, parts_of, level_of, built, take_part, onward, opened}
-use Rattle.arr_syntax.proofs.Completes.{IsEmpty, Fills, NextPart, Then, Climb, there, up, Closed, OneMore, Supplied, OpensIn, BoundIn, After, Given, Tree, Wants, Completes, Next, Formed, Takes, WellFormed}
+use Rattle.arr_syntax.proofs.Completes.{IsEmpty, Fills, NextPart, Then, Climb, there, up, Closed, Supplied, OpensIn, BoundIn, After, Given, Tree, Wants, Completes, Next, Formed, Takes, WellFormed}
 use Rattle.arr_syntax.proofs.Filling.{item, fill_back}
 use Rattle.arr_syntax.proofs.Forward.{climb_most, operator_within, again_same, again_most}
 
