@@ -100,7 +100,7 @@ pub(crate) fn is_reduction(code: Code) -> bool
 }
 
 /// The number that a literal spells.
-pub(crate) fn signed(negative: bool, size: u64) -> i128
+pub(crate) fn literal_number(negative: bool, size: u64) -> i128
     ensures { result ≡ signed negative size }
 {
     let size = i128::from(size);

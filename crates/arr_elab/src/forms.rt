@@ -10,7 +10,7 @@ ghost use Rattle.arr_elab.specs.declared.value.Prepared.TheVariants.{Ready};
 ghost use Rattle.arr_elab.specs.declared.value.Value.TheVariants as literal;
 ghost use Rattle.arr_elab.specs.Outcome.{prepared};
 
-use crate::codes::{binary_code, elem_of, fold_code, is_reduction, signed, unary_code};
+use crate::codes::{binary_code, elem_of, fold_code, is_reduction, literal_number, unary_code};
 use crate::fault::ElabFault;
 use crate::joined::{filled, joined};
 use crate::operation::{exponent_of, operation, pending, ruled, seen, settled, shape_of, taken};
@@ -310,7 +310,7 @@ fn literal(at: Place, negative: bool, size: u64) -> Prepared
 {
     Prepared::Ready(Value::Literal {
         at,
-        number: signed(negative, size),
+        number: literal_number(negative, size),
     })
 }
 
