@@ -4,5 +4,6 @@ pub mod Apart
 pub mod Spacing
 pub mod Smaller
 pub mod Columns
+pub mod Runs
 mod ClassesSeen
 mod ClassesMeet

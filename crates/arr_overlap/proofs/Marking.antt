@@ -1,14 +1,14 @@
 -- Elements that are marked one after another.
-use Rattle.std.proofs.Common.{◌≡◌, ℕ, zero, suc, ◌<◌, ℤ, pos, negsuc, List, [], ◌∷◌, ◌++◌, Bool, true, false, length, map, get_or, set, replicate, refl, ap, ap₂, sym, ◌∙◌, arith, append_assoc, append-nil}
+use Rattle.std.proofs.Common.{◌≡◌, ℕ, zero, suc, ◌+◌, ◌<◌, ℤ, pos, negsuc, List, [], ◌∷◌, ◌++◌, Bool, true, false, length, map, get_or, set, replicate, refl, ap, ap₂, sym, ◌∙◌, arith, append_assoc, append-nil}
 use Rattle.std.specs.Prelude.{◌==◌, ◌&&◌, ◌||◌, nat_eq, nat_lt}
-use Rattle.std.specs.List.{list_all}
+use Rattle.std.specs.List.{list_all, range_with_len}
 use Rattle.std.proofs.lemmas.Bool.{and_parts, and_from, eqb-true, eqb-false, eq-eqb, ne_eqb, ltb-true, false≢true}
-use Rattle.std.proofs.lemmas.List.{get_or-set_same, get_or-set_other, length-map, length-set, length-replicate}
+use Rattle.std.proofs.lemmas.List.{get_or-set_same, get_or-set_other, length-set, length-replicate}
 use Rattle.std.proofs.lemmas.List.Folds.{list_any-append}
 use Rattle.arr_view.specs.Strided.{Strided}
-use Rattle.arr_view.specs.Views.{elements, has, is_place, is_view, overlap, places, positions, repeated, repeats, share, to_place, most_elements}
-use Rattle.arr_view.proofs.Checks.{lawful, same_rank}
-use Rattle.arr_view.proofs.Places.{length-places}
+use Rattle.arr_view.specs.Views.{elements, has, is_consecutive, is_place, is_view, overlap, places, positions, repeated, repeats, share, to_place, most_elements}
+use Rattle.arr_view.proofs.Checks.{lawful}
+use Rattle.arr_view.proofs.Known.{same_lists-true}
 use Rattle.arr_overlap.specs.Marks.{Marks}
 
 -- ---- elements lie below the bound
@@ -125,12 +125,14 @@ at_end all front iterator whole none = whole ∙ ap (λ r. front ++ r) none ∙ 
 pub meet_on : (v w : Strided) (b : Bool) → v.base ≡ w.base → share (elements v) (elements w) ≡ b → overlap v w ≡ b
 meet_on v w b same e = ap₂ (λ x y. x && y) (eq-eqb v.base w.base same) e
 
--- one position has no second
-single : (xs : List ℕ) → length xs ≡ 1 → repeated xs ≡ false
-single [] e = refl
-single (x ∷ []) e = refl
-single (x ∷ y ∷ xs) e = absurd (omega arith)
+-- numbers in a row don't repeat
+not_before : (n a x : ℕ) → x < a → has (range_with_len a n) x ≡ false
+not_before zero a x h = refl
+not_before (suc n) a x h = ap₂ (λ p q. p || q) (ne_eqb x a (λ z. let z' : x ≡ a = z in omega arith)) (not_before n (a + 1) x (omega arith))
 
-pub lone : (v : Strided) → is_view v ≡ true → positions v.lengths ≡ 1 → repeats v ≡ false
-unfolding elements
-lone v law one = single (elements v) (length-map (places v.lengths v.strides (pos v.start)) to_place ∙ length-places v.lengths v.strides (pos v.start) (same_rank v law) ∙ one)
+row_fresh : (n a : ℕ) → repeated (range_with_len a n) ≡ false
+row_fresh zero a = refl
+row_fresh (suc n) a = ap₂ (λ p q. p || q) (not_before n (a + 1) a (omega arith)) (row_fresh n (a + 1))
+
+pub gapless_fresh : (v : Strided) → is_consecutive v ≡ true → repeats v ≡ false
+gapless_fresh v e = ap repeated (same_lists-true (elements v) (range_with_len v.start (positions v.lengths)) e) ∙ row_fresh (positions v.lengths) v.start

@@ -1,15 +1,16 @@
-ghost use Rattle.std.specs.Prelude.{◌≡◌, IfOk};
+ghost use Rattle.std.specs.Prelude.{◌≡◌, ◌-◌, IfOk, get_or, length, pos};
 ghost use Rattle.arr_view.specs.Views.{elements, overlap, repeats};
 ghost use Rattle.arr_overlap.specs.Marks.{Marks};
 
 use crate::NoMemory;
 use crate::filters::decided;
+use crate::fronts::first_of_last;
 use arr_sets::Bits;
 use arr_view::{MOST_ELEMENTS, View, Walk};
 use std::alloc::Global;
 
-/// The elements of a view, marked in a row of bits.
-pub(crate) fn marked(alloc: Global, view: &View) -> Result<Bits, NoMemory>
+/// The elements of a view, marked in a row of bits one by one.
+fn marked_singly(alloc: Global, view: &View) -> Result<Bits, NoMemory>
     ensures { IfOk result (λ bits. Marks bits (elements view.now)) }
 {
     let _base = view.base();
@@ -20,11 +21,35 @@ pub(crate) fn marked(alloc: Global, view: &View) -> Result<Bits, NoMemory>
     Ok(bits)
 }
 
+/// The elements of a view of which the last stride is 1, marked in a row of bits by runs along its last dimension, of so many elements.
+fn marked_in_runs(alloc: Global, view: &View, run: u32) -> Result<Bits, NoMemory>
+    requires run { run ≡ get_or view.now.lengths (length view.now.lengths - 1) 0 }
+    requires stride { get_or view.now.strides (length view.now.strides - 1) (pos 0) ≡ pos 1 }
+    ensures { IfOk result (λ bits. Marks bits (elements view.now)) }
+{
+    let mut bits = Bits::new(alloc, MOST_ELEMENTS)?;
+    for first in Walk::new(&first_of_last(view)) {
+        bits.insert_run(first, run);
+    }
+    Ok(bits)
+}
+
+/// The elements of a view, marked in a row of bits.
+pub(crate) fn marked(alloc: Global, view: &View) -> Result<Bits, NoMemory>
+    ensures { IfOk result (λ bits. Marks bits (elements view.now)) }
+{
+    let last = view.shape().len() - 1;
+    if view.strides()[last] == 1 {
+        return marked_in_runs(alloc, view, view.shape()[last]);
+    }
+    marked_singly(alloc, view)
+}
+
 /// Whether two positions of the view have one element (docs/PLANS.md, "Views").
 pub fn repeats(alloc: Global, view: &View) -> Result<bool, NoMemory>
     ensures { IfOk result (λ r. r ≡ repeats view.now) }
 {
-    if view.positions() == 1 {
+    if view.is_gapless() {
         return Ok(false);
     }
     let mut bits = Bits::new(alloc, MOST_ELEMENTS)?;

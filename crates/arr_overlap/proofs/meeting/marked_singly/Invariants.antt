@@ -1,7 +1,7 @@
 use Rattle.std.proofs.Common.{◌≡◌, ◌++◌}
 use Rattle.arr_view.specs.Views.{elements}
 use Rattle.arr_overlap.specs.Marks.{Marks}
-use Rattle.arr_overlap.proofs.meeting.marked.Given as goal
+use Rattle.arr_overlap.proofs.meeting.marked_singly.Given as goal
 
 abbrev pub invariant-loop-element : goal.invariant-loop-element
 invariant-loop-element l = record {
