@@ -1,15 +1,12 @@
 -- Lanes, one at a time.
-use Rattle.std.proofs.Common.{◌≡◌, ◌≢◌, ℕ, suc, zero, ◌+◌, ◌<◌, ◌≤◌, ℤ, pos, List, [], ◌∷◌, true, false, cond, refl, ap, sym, ◌∙◌, subst, arith, length, get_or, map, drop, slice_get, slice_set, drop-cons, Some}
+use Rattle.std.proofs.Common.{◌≡◌, ◌≢◌, ℕ, suc, zero, ◌<◌, ℤ, List, [], ◌∷◌, true, false, refl, ap, sym, ◌∙◌, subst, arith, length, get_or, map, slice_get, slice_set, Some}
 use Rattle.std.proofs.lemmas.Bool.{eqb-true, eqb-false}
 use Rattle.std.proofs.lemmas.Option.{slice_get-get_or}
 use Rattle.std.specs.Prelude.{◌==◌}
 use Rattle.std.specs.List.{AllByRecursion}
 use Rattle.arr_num.specs.declared.elem.Elem.{Elem}
-use Rattle.arr_store.specs.Buffers.{cell_of}
 use Rattle.arr_store.specs.declared.buffer.Buffer.{Buffer}
-use Rattle.arr_strips.specs.Registers.{ran, assign, line_value, Line as LawLine}
-use Rattle.arr_lanes.specs.declared.line.Line.{Line}
-use Rattle.arr_lanes.specs.Lanes.{IsLane, Becomes, LineFits, WorkFits, lane_number, number, registers, shown}
+use Rattle.arr_lanes.specs.Lanes.{IsLane, Becomes}
 
 pub same_numbers : (xs : List ℤ) → map (λ z. z) xs ≡ xs
 same_numbers [] = refl

@@ -1,11 +1,11 @@
 -- One line more over a strip, as the work that is left.
-use Rattle.std.proofs.Common.{◌≡◌, ◌≢◌, ℕ, suc, ◌+◌, ◌<◌, ℤ, List, [], ◌∷◌, true, false, cond, refl, ap, ap₂, sym, ◌∙◌, subst, arith, length, get_or, map, drop, slice_get, drop-cons}
+use Rattle.std.proofs.Common.{◌≡◌, ℕ, suc, ◌+◌, ◌<◌, ℤ, List, [], ◌∷◌, true, false, cond, refl, ap, sym, ◌∙◌, subst, arith, length, get_or, map, drop, slice_get, drop-cons}
 use Rattle.std.proofs.lemmas.Bool.{eqb-true, eqb-false}
 use Rattle.std.specs.Prelude.{◌==◌}
 use Rattle.std.specs.List.{AllByRecursion}
 use Rattle.arr_num.specs.declared.elem.Elem.{Elem}
 use Rattle.arr_store.specs.declared.buffer.Buffer.{Buffer}
-use Rattle.arr_strips.specs.Registers.{ran, assign, line_value}
+use Rattle.arr_strips.specs.Registers.{ran, line_value}
 use Rattle.arr_lanes.specs.declared.line.Line.{Line}
 use Rattle.arr_lanes.specs.declared.line.Work.{Work}
 use Rattle.arr_lanes.specs.declared.line.Work.TheVariants.{Arithmetic, Comparison, Power, Conversion, Positions}
