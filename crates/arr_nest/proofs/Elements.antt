@@ -2,7 +2,6 @@
 use Rattle.std.proofs.Common.{◌≡◌, ℕ, suc, zero, ◌+◌, ℤ, pos, ◌+ℤ◌, ◌*ℤ◌, List, [], ◌∷◌, ◌++◌, refl, ap, ap₂, sym, ◌∙◌, arith, map, length}
 use Rattle.std.proofs.lemmas.Int.{ints}
 use Rattle.std.proofs.lemmas.List.{map-append}
-use Rattle.arr_view.specs.Strided.{Strided}
 use Rattle.arr_view.specs.Views.{at_steps, elements, places, to_place}
 use Rattle.arr_shape.specs.Views.{place_at}
 use Rattle.arr_nest.specs.Indices.{with_first, with_firsts, indices}

@@ -1,5 +1,5 @@
 -- The index that comes next.
-use Rattle.std.proofs.Common.{◌≡◌, ℕ, ◌+◌, ◌-◌, ◌≤◌, ◌<◌, suc, zero, List, [], ◌∷◌, ◌++◌, Bool, true, false, refl, ap, ap₂, sym, ◌∙◌, subst, arith, length, get_or, set, take, drop, replicate, append_assoc, get_or-set_same, get_or-set_other, drop-cons, length-drop}
+use Rattle.std.proofs.Common.{◌≡◌, ℕ, ◌+◌, ◌-◌, ◌≤◌, ◌<◌, suc, zero, List, [], ◌∷◌, ◌++◌, true, false, refl, ap, ap₂, sym, ◌∙◌, subst, arith, length, get_or, set, take, drop, append_assoc, get_or-set_same, get_or-set_other, drop-cons, length-drop}
 use Rattle.std.proofs.Math.ListN.{length-set}
 use Rattle.std.proofs.Math.Seq.{get_or-append_seam}
 use Rattle.std.proofs.lemmas.List.{take_more, set_at, length-take-le}

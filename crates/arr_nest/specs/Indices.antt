@@ -1,6 +1,5 @@
 -- The index lists of a shape, in row-major order.
-use Rattle.std.specs.Prelude.{ℕ, zero, suc, ◌+◌, ◌-◌, List, [], ◌∷◌, ◌++◌, Bool, true, false, cond, map, replicate, length}
-use Rattle.std.specs.List.{flat_map, range_with_len}
+use Rattle.std.specs.Prelude.{ℕ, zero, suc, ◌+◌, ◌-◌, List, [], ◌∷◌, ◌++◌, Bool, true, false, replicate}
 
 abbrev pub with_first : ℕ → List (List ℕ) → List (List ℕ)
 with_first i [] = []

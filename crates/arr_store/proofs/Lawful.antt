@@ -6,7 +6,7 @@ use Rattle.std.specs.Prelude.{◌&&◌, nat_le, IsTrue, Bool}
 use Rattle.std.specs.List.{list_all}
 use Rattle.arr_num.specs.declared.elem.Elem.{Elem}
 use Rattle.arr_num.specs.Numbers.{in_type}
-use Rattle.arr_ops.specs.Memory.{Cell}
+use Rattle.arr_ops.specs.Memory.{Cell, write}
 use Rattle.arr_ops.proofs.Tests.{both_left, both_right}
 use Rattle.arr_ops.proofs.Typed.{zero_in}
 use Rattle.arr_store.specs.Cells.{blank, lawful}
@@ -32,3 +32,18 @@ pub lawful_set : (c : Cell) (p : ℕ) (z : ℤ) → in_type c.elem z ≡ true �
 lawful_set c p z h all =
     let e : length (set c.numbers p z) ≡ length c.numbers = length-set c.numbers p z in
     both _ _ (set_in c.elem c.numbers p z h (both_left _ _ all)) (ap (λ n. nat_le 1 n && nat_le n 1048576) e ∙ both_right (list_all (in_type c.elem) c.numbers) _ all)
+
+write_in : (t : Elem) (es : List ℕ) (xs ns : List ℤ) → list_all (in_type t) xs ≡ true → list_all (in_type t) ns ≡ true → list_all (in_type t) (write es xs ns) ≡ true
+write_in t [] xs ns h all = all
+write_in t (e ∷ es) [] ns h all = all
+write_in t (e ∷ es) (x ∷ xs) ns h all = write_in t es xs (set ns e x) (both_right (in_type t x) _ h) (set_in t ns e x (both_left (in_type t x) (list_all (in_type t) xs) h) all)
+
+length-write : (es : List ℕ) (xs ns : List ℤ) → length (write es xs ns) ≡ length ns
+length-write [] xs ns = refl
+length-write (e ∷ es) [] ns = refl
+length-write (e ∷ es) (x ∷ xs) ns = length-write es xs (set ns e x) ∙ length-set ns e x
+
+pub lawful_run : (c : Cell) (es : List ℕ) (xs : List ℤ) → list_all (in_type c.elem) xs ≡ true → IsTrue (lawful c) → IsTrue (lawful (record { elem = c.elem; numbers = write es xs c.numbers }))
+lawful_run c es xs h all =
+    both _ _ (write_in c.elem es xs c.numbers h (both_left _ _ all))
+    (ap (λ n. nat_le 1 n && nat_le n 1048576) (length-write es xs c.numbers) ∙ both_right (list_all (in_type c.elem) c.numbers) _ all)

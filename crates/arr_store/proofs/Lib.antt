@@ -3,3 +3,4 @@ pub mod Tables
 pub mod Lawful
 pub mod Updates
 pub mod Pages
+pub mod Places

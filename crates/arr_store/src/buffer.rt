@@ -9,7 +9,7 @@ use std::alloc::{AllocError as NoMemory, Global};
 
 /// A list of numbers of one type, each in the bytes of that type.
 #[derive(Debug, Drop)]
-pub(crate) enum Buffer {
+pub enum Buffer {
     Bytes(Vec<u8>),
     Words(Vec<i32>),
     Longs(Vec<i64>),

@@ -6,17 +6,22 @@
 //! The promise: a store is a finite map from base to type and list of numbers. `load` gives the number that is kept, `store`
 //! changes that one number, `make` adds a base of zeros and `drop_base` takes one away; each raises its own counter and no other,
 //! and none falls. Every number is of its base's type. A refused `make` changes nothing, and only what makes a store, a base or
-//! slots takes memory. `load` and `store` take constant time: an index leads from the base to its buffer.
+//! slots takes memory. `load` and `store` take constant time: an index leads from the base to its buffer. `load_run` and
+//! `store_run` move numbers that lie a stride apart ([`Run`]) between a base and a [`Buffer`] of its type, and count each of them.
 //!
 //! The definitions: `specs/Stored.antt` has what a contract sees of a store, and its bases as a function from numbers to cells
 //! (`cells`), as `Memory` of arr_ops has them; `specs/Slots.antt` has the slots as such a function (`slots_of`) and the slots of a
-//! list (`blank_slots`); `specs/Cells.antt` what calls read of one cell, and `assigned`, a function changed at one number. How
-//! fields show these (`Buffers`, `Tables`, `Pages`) no clause names.
+//! list (`blank_slots`); `specs/Cells.antt` what calls read of one cell, and `assigned`, a function changed at one number;
+//! `specs/Runs.antt` the places of a run. `cell_of` (`specs/Buffers.antt`) is the type and the numbers of a buffer. How fields show
+//! these (`Tables`, `Pages`) no clause names.
 #![tactic(auto)]
 
 mod buffer;
+mod runs;
 mod slots;
 mod store;
 
+pub use buffer::Buffer;
+pub use runs::Run;
 pub use slots::Slots;
 pub use store::Store;

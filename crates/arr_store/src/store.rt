@@ -5,6 +5,8 @@ ghost use Rattle.arr_view.specs.Views.{most_elements};
 ghost use Rattle.arr_store.specs.Cells.{assigned, blank, number_at, size_at, takes, width_at, with_number};
 ghost use Rattle.arr_store.specs.Stored.{IsLawful, cells};
 
+mod strips;
+
 use crate::buffer::Buffer;
 use arr_num::Elem;
 use slab::Slab;

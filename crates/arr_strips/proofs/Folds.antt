@@ -107,7 +107,7 @@ lane_before n inner outer p j s l =
     let m : (q + j) * inner ≤ (q + p / inner % n) * inner = grind (arith) in
     omega arith
 
--- ---- the papers' lists
+-- ---- the lists of results, entry by entry
 
 pub scanned_at : (f : ℤ → ℤ → ℤ) (z : ℤ) (lengths : List ℕ) (axis : ℕ) (xs : List ℤ) (col : ℕ → ℤ) (p : ℕ) → axis < length lengths → p < positions lengths
     → ((q : ℕ) → q ≤ p → get_or xs q (pos 0) ≡ col q)

@@ -6,7 +6,7 @@ use Rattle.std.specs.List.{flat_map}
 use Rattle.arr_view.specs.Strided.{Strided}
 use Rattle.arr_view.specs.Views.{elements, places, at_steps, to_place}
 use Rattle.arr_strips.specs.Columns.{place_at}
-use Rattle.arr_strips.specs.Rows.{moved}
+use Rattle.arr_store.specs.Runs.{moved}
 
 abbrev pub row_from : ℕ → ℤ → ℤ → List ℤ
 row_from m s y = at_steps (λ w. w ∷ []) m s y
@@ -73,8 +73,3 @@ row_place v ns ss m s el es e row column a b =
     ∙ ap (λ xs. get_or xs (row * m + column) (pos 0)) (places_rows ns ss m s (pos v.start) e)
     ∙ piece_list (row_from m s) m (length-row m s) (places ns ss (pos v.start)) row column a b
     ∙ row_at m s (get_or (places ns ss (pos v.start)) row (pos 0)) column b)
-
--- side by side
-pub moved_one : (a i : ℕ) → to_place (moved (pos a) (pos 1) i) ≡ a + i
-moved_one a zero = sym (let e : a + 0 ≡ a = omega arith in e)
-moved_one a (suc i) = moved_one (a + 1) i ∙ (let e : a + 1 + i ≡ a + suc i = omega arith in e)

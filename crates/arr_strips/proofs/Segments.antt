@@ -1,5 +1,5 @@
 -- A strip of a view as segments of its rows.
-use Rattle.std.proofs.Common.{◌≡◌, ℕ, ◌+◌, ◌*◌, ◌/◌, ◌%◌, ◌≤◌, ◌<◌, suc, zero, ℤ, pos, List, [], ◌∷◌, ◌++◌, true, false, cond, refl, ap, sym, ◌∙◌, arith, map, length, get_or, set, Option, Some, None}
+use Rattle.std.proofs.Common.{◌≡◌, ℕ, ◌+◌, ◌*◌, ◌/◌, ◌%◌, ◌≤◌, ◌<◌, suc, zero, ℤ, pos, ◌+ℤ◌, List, [], ◌∷◌, ◌++◌, true, false, cond, refl, ap, sym, ◌∙◌, arith, map, length, get_or, set, Option, Some, None}
 use Rattle.std.proofs.Math.Nat.{div-add-mod}
 use Rattle.std.proofs.lemmas.List.{ext_get_or, length-map}
 use Rattle.std.proofs.lemmas.List.FromFn.{length-range_with_len, get_or-map-range_with_len}
@@ -11,7 +11,7 @@ use Rattle.arr_view.specs.Views.{places, to_place}
 use Rattle.arr_ops.specs.Memory.{Cell, Writes, changed, write}
 use Rattle.arr_strips.specs.Columns.{Columns, place_at}
 use Rattle.arr_strips.specs.Strips.{Bases, put_at, part, lane_of}
-use Rattle.arr_strips.specs.Rows.{moved}
+use Rattle.arr_store.specs.Runs.{moved, run_place, run_places}
 use Rattle.arr_strips.proofs.Rows.{row_place}
 
 -- ---- one segment after another
@@ -49,18 +49,18 @@ put_more b es fs xs ys f a l =
 
 -- ---- the places of a segment
 
-pub moved_up : (a k i : ℕ) → to_place (moved (pos a) (pos k) i) ≡ a + i * k
-moved_up a k zero = sym (let e : a + 0 * k ≡ a = omega arith in e)
-moved_up a k (suc i) = moved_up (a + k) k i ∙ (let e : a + k + i * k ≡ a + suc i * k = omega arith in e)
+moved_more : (z s : ℤ) (j i : ℕ) → moved z s (j + i) ≡ moved (moved z s j) s i
+moved_more z s zero i = ap (moved z s) (let e : 0 + i ≡ i = omega arith in e)
+moved_more z s (suc j) i = ap (moved z s) (let e : suc j + i ≡ suc (j + i) = omega arith in e) ∙ moved_more (z +ℤ s) s j i
 
--- a segment inside the row of p, whose first place is a, with stride k
-pub segment : (v : Strided) (ns : List ℕ) (ss : List ℤ) (m k a : ℕ) → v.lengths ≡ ns ++ m ∷ [] → v.strides ≡ ss ++ pos k ∷ [] → length ns ≡ length ss
-    → (p c : ℕ) → p / m < length (places ns ss (pos v.start)) → get_or (places ns ss (pos v.start)) (p / m) (pos 0) ≡ pos a → p % m + c ≤ m
-    → part v p c ≡ map (λ i. a + p % m * k + i * k) (range_with_len 0 c)
-segment v ns ss m k a el es e p c row start fits =
+-- a segment inside the row of p, whose first place is a, is a run of the row's stride
+pub segment : (v : Strided) (ns : List ℕ) (ss : List ℤ) (m : ℕ) (s : ℤ) → v.lengths ≡ ns ++ m ∷ [] → v.strides ≡ ss ++ s ∷ [] → length ns ≡ length ss
+    → (p c a : ℕ) → p / m < length (places ns ss (pos v.start)) → moved (get_or (places ns ss (pos v.start)) (p / m) (pos 0)) s (p % m) ≡ pos a → p % m + c ≤ m
+    → part v p c ≡ run_places a s c
+segment v ns ss m s el es e p c a row start fits =
     let left : length (part v p c) ≡ c = length-map (range_with_len p c) (place_at v) ∙ length-range_with_len p c in
-    let right : length (map (λ i. a + p % m * k + i * k) (range_with_len 0 c)) ≡ c = length-map (range_with_len 0 c) (λ i. a + p % m * k + i * k) ∙ length-range_with_len 0 c in
-    ext_get_or 0 (part v p c) (map (λ i. a + p % m * k + i * k) (range_with_len 0 c)) (left ∙ sym right)
+    let right : length (run_places a s c) ≡ c = length-map (range_with_len 0 c) (run_place a s) ∙ length-range_with_len 0 c in
+    ext_get_or 0 (part v p c) (run_places a s c) (left ∙ sym right)
     (λ i l.
     let below : i < c = omega arith in
     let whole : m * (p / m) + p % m ≡ p = div-add-mod p m in
@@ -68,8 +68,6 @@ segment v ns ss m k a el es e p c row start fits =
     let at : p + i ≡ p / m * m + (p % m + i) = omega arith in
     get_or-map-range_with_len (place_at v) p c i (p + i) 0 below refl
     ∙ ap (place_at v) at
-    ∙ row_place v ns ss m (pos k) el es e (p / m) (p % m + i) row (omega arith)
-    ∙ ap (λ z. to_place (moved z (pos k) (p % m + i))) start
-    ∙ moved_up a k (p % m + i)
-    ∙ (let s : (p % m + i) * k ≡ p % m * k + i * k = grind (arith) in let t : a + (p % m + i) * k ≡ a + p % m * k + i * k = omega arith in t)
-    ∙ sym (get_or-map-range_with_len (λ i. a + p % m * k + i * k) 0 c i i 0 below (let z : 0 + i ≡ i = omega arith in z)))
+    ∙ row_place v ns ss m s el es e (p / m) (p % m + i) row (omega arith)
+    ∙ ap to_place (moved_more (get_or (places ns ss (pos v.start)) (p / m) (pos 0)) s (p % m) i ∙ ap (λ z. moved z s i) start)
+    ∙ sym (get_or-map-range_with_len (run_place a s) 0 c i i 0 below (let z : 0 + i ≡ i = omega arith in z)))

@@ -13,7 +13,7 @@
 //! The definitions: `specs/Columns.antt` has a block as columns, a number for each view at each position (`next`, `ends`);
 //! `specs/Strips.antt` what a walk has left after some positions (`Walked`); `specs/Sums.antt` accumulators; `specs/Blocks.antt`
 //! what a block is (`is_block`) and what its walk stores; `specs/Registers.antt` a block as lines over numbered registers (`ran`);
-//! `specs/Rows.antt` places along a row; `specs/Laws.antt` the laws as statements.
+//! `specs/Laws.antt` the laws as statements.
 #![tactic(auto)]
 
 mod laws;

@@ -5,7 +5,7 @@ use Rattle.std.proofs.lemmas.Bool.{eqb-true, eqb-false}
 use Rattle.std.specs.Prelude.{◌==◌}
 use Rattle.arr_strips.specs.Columns.{fold_upto}
 use Rattle.arr_strips.specs.Sums.{gathered}
-use Rattle.arr_sums.specs.Gathering.{Gathers}
+use Rattle.arr_sums.specs.Gathering.{FoldsOn}
 use Rattle.arr_strips.proofs.Folds.{upto_same}
 use Rattle.arr_strips.proofs.Sums.{segment_same, segment_other}
 
@@ -38,7 +38,7 @@ lane_there n inner outer size p one some is inside =
     subst (λ k. p / n < k) (sym (is ∙ a)) (lane_inside n outer p some (subst (λ k. p < k) b inside))
 
 pub lane_gathers : (f : ℤ → ℤ → ℤ) (n inner size : ℕ) (old new source : ℕ → ℤ) (p from c : ℕ) → inner ≡ 1 → 1 ≤ n → p % n + c ≤ n → p / n < size
-    → new (p / n) ≡ fold_upto f (old (p / n)) (λ j. source (from + j)) c → ((l : ℕ) → p / n ≢ l → new l ≡ old l) → Gathers f n inner size old new source p from c
+    → new (p / n) ≡ fold_upto f (old (p / n)) (λ j. source (from + j)) c → ((l : ℕ) → p / n ≢ l → new l ≡ old l) → FoldsOn f n inner size old new source p from c
 lane_gathers f n inner size old new source p from c one some fits there lane others =
-    subst (λ k. Gathers f n k size old new source p from c) (sym one)
+    subst (λ k. FoldsOn f n k size old new source p from c) (sym one)
     (λ z xs was reads l inside. segment_gathers f z n xs size old new source from p c some fits there lane others was reads l inside)

@@ -2,3 +2,5 @@ mod Turns
 mod Rows
 mod Lanes
 mod Parts
+mod Rests
+mod Parted

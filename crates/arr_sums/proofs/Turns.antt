@@ -18,21 +18,50 @@ pub record RowDone {T : Type 0} (f : T → ℤ) (g : ℤ → ℤ → ℤ) (old s
 pub row_begins : {T : Type 0} (f : T → ℤ) (g : ℤ → ℤ → ℤ) (old source : List T) (at from : ℕ) → RowDone f g old source at from 0 old
 row_begins f g old source at from = record { each = λ j u. absurd (omega arith); before = λ l u. refl; behind = λ l u. refl }
 
-pub row_more : {T : Type 0} (f : T → ℤ) (g : ℤ → ℤ → ℤ) (old source now : List T) (at from i : ℕ) (s t r : T) → at + i < length now → from + i < length source
-    → s ≡ get_or now (at + i) s → t ≡ get_or source (from + i) t → f r ≡ g (f s) (f t)
-    → RowDone f g old source at from i now → RowDone f g old source at from (i + 1) (set now (at + i) r)
-row_more f g old source now at from i s t r there reads sum number is h =
+-- with what the number that stands there must become
+pub row_step : {T : Type 0} (f : T → ℤ) (g : ℤ → ℤ → ℤ) (old source now : List T) (at from i : ℕ) (r : T) → at + i < length now
+    → f r ≡ g (entry f old (at + i)) (entry f source (from + i)) → RowDone f g old source at from i now → RowDone f g old source at from (i + 1) (set now (at + i) r)
+row_step f g old source now at from i r there is h =
     record {
       each = λ j u. elim (j == i) as (λ d. (j == i) ≡ d → entry f (set now (at + i) r) (at + j) ≡ g (entry f old (at + j)) (entry f source (from + j))) [
         | true ↦ λ d.
             let e : j ≡ i = eqb-true j i d in
-            ap (λ k. entry f (set now (at + i) r) (at + k)) e ∙ entry_set_same f now (at + i) r there ∙ is
-            ∙ ap₂ g (sym (entry_is f now (at + i) s there sum) ∙ h.behind (at + i) (omega arith)) (sym (entry_is f source (from + i) t reads number))
-            ∙ ap (λ k. g (entry f old (at + k)) (entry f source (from + k))) (sym e)
+            ap (λ k. entry f (set now (at + i) r) (at + k)) e ∙ entry_set_same f now (at + i) r there ∙ is ∙ ap (λ k. g (entry f old (at + k)) (entry f source (from + k))) (sym e)
         | false ↦ λ d.
             let ne : j ≢ i = eqb-false j i d in
             entry_set_other f now (at + i) (at + j) r (λ e. ne (let k : j ≡ i = omega arith in k)) ∙ h.each j (omega arith)
       ] refl;
       before = λ l u. entry_set_other f now (at + i) l r (λ e. absurd (omega arith)) ∙ h.before l u;
       behind = λ l u. entry_set_other f now (at + i) l r (λ e. absurd (omega arith)) ∙ h.behind l (omega arith);
+    }
+
+-- where it is made from the number that stands there
+pub row_more : {T : Type 0} (f : T → ℤ) (g : ℤ → ℤ → ℤ) (old source now : List T) (at from i : ℕ) (s t r : T) → at + i < length now → from + i < length source
+    → s ≡ get_or now (at + i) s → t ≡ get_or source (from + i) t → f r ≡ g (f s) (f t)
+    → RowDone f g old source at from i now → RowDone f g old source at from (i + 1) (set now (at + i) r)
+row_more f g old source now at from i s t r there reads sum number is h =
+    row_step f g old source now at from i r there
+    (is ∙ ap₂ g (sym (entry_is f now (at + i) s there sum) ∙ h.behind (at + i) (omega arith)) (sym (entry_is f source (from + i) t reads number))) h
+
+-- places from one on, filled one after another
+pub record RunDone {T : Type 0} (f : T → ℤ) (wanted : ℕ → ℤ) (old : List T) (at i : ℕ) (now : List T) : Type 0 where
+  pub each : (j : ℕ) → j < i → entry f now (at + j) ≡ wanted j
+  pub before : (l : ℕ) → l < at → entry f now l ≡ entry f old l
+
+pub run_begins : {T : Type 0} (f : T → ℤ) (wanted : ℕ → ℤ) (old : List T) (at : ℕ) → RunDone f wanted old at 0 old
+run_begins f wanted old at = record { each = λ j u. absurd (omega arith); before = λ l u. refl }
+
+pub run_more : {T : Type 0} (f : T → ℤ) (wanted : ℕ → ℤ) (old now : List T) (at i : ℕ) (r : T) → at + i < length now → f r ≡ wanted i
+    → RunDone f wanted old at i now → RunDone f wanted old at (i + 1) (set now (at + i) r)
+run_more f wanted old now at i r there is h =
+    record {
+      each = λ j u. elim (j == i) as (λ d. (j == i) ≡ d → entry f (set now (at + i) r) (at + j) ≡ wanted j) [
+        | true ↦ λ d.
+            let e : j ≡ i = eqb-true j i d in
+            ap (λ k. entry f (set now (at + i) r) (at + k)) e ∙ entry_set_same f now (at + i) r there ∙ is ∙ ap wanted (sym e)
+        | false ↦ λ d.
+            let ne : j ≢ i = eqb-false j i d in
+            entry_set_other f now (at + i) (at + j) r (λ e. ne (let k : j ≡ i = omega arith in k)) ∙ h.each j (omega arith)
+      ] refl;
+      before = λ l u. entry_set_other f now (at + i) l r (λ e. absurd (omega arith)) ∙ h.before l u;
     }

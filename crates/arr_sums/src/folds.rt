@@ -117,3 +117,80 @@ fn row_with<T: Native, F: Fn(T, T) -> T>(
         sums[at + i] = f(sums[at + i], source[from + i]);
     }
 }
+
+/// Folds numbers that lie side by side, and writes the fold so far at each place.
+pub(crate) fn scan_run<T: Native>(
+    code: Code,
+    out: &mut [T],
+    source: &[T],
+    from: usize,
+    count: usize,
+    start: T,
+) -> T
+    requires code { IsTrue (is_fold code) }
+    requires out { from + count ≤ length out.old }
+    requires source { from + count ≤ length source.now }
+    ensures length { length out.new ≡ length out.old }
+    ensures last { T.number result ≡ fold_upto (value code T.elem) (T.number start) (λ k. entry T.number source.now (from + k)) count }
+    ensures each { (j : ℕ) → j < count → entry T.number out.new (from + j) ≡ fold_upto (value code T.elem) (T.number start) (λ k. entry T.number source.now (from + k)) (j + 1) }
+    ensures before { (l : ℕ) → l < from → entry T.number out.new l ≡ entry T.number out.old l }
+{
+    table!(scan_with, code, out, source, from, count, start)
+}
+
+/// Folds numbers that lie side by side by `f`, which gives the values of a code, and writes the fold so far at each place.
+#[inline(always)]
+fn scan_with<T: Native, F: Fn(T, T) -> T>(
+    _code: Code,
+    out: &mut [T],
+    source: &[T],
+    from: usize,
+    count: usize,
+    start: T,
+    f: F,
+) -> T
+    requires out { from + count ≤ length out.old }
+    requires source { from + count ≤ length source.now }
+    requires callable { F.IsAlwaysCallable f }
+    requires values { (x y z : T) → F.post f x y z → T.number z ≡ value _code T.elem (T.number x) (T.number y) }
+    ensures length { length out.new ≡ length out.old }
+    ensures last { T.number result ≡ fold_upto (value _code T.elem) (T.number start) (λ k. entry T.number source.now (from + k)) count }
+    ensures each { (j : ℕ) → j < count → entry T.number out.new (from + j) ≡ fold_upto (value _code T.elem) (T.number start) (λ k. entry T.number source.now (from + k)) (j + 1) }
+    ensures before { (l : ℕ) → l < from → entry T.number out.new l ≡ entry T.number out.old l }
+{
+    let mut sum = start;
+    for i in 0..count {
+        sum = f(sum, source[from + i]);
+        out[from + i] = sum;
+    }
+    sum
+}
+
+/// Writes one number at places side by side.
+#[inline(always)]
+pub(crate) fn refill<T: Native>(out: &mut [T], at: usize, number: T, count: usize)
+    requires { at + count ≤ length out.old }
+    ensures length { length out.new ≡ length out.old }
+    ensures each { (j : ℕ) → j < count → entry T.number out.new (at + j) ≡ T.number number }
+    ensures before { (l : ℕ) → l < at → entry T.number out.new l ≡ entry T.number out.old l }
+    ensures behind { (l : ℕ) → at + count ≤ l → entry T.number out.new l ≡ entry T.number out.old l }
+{
+    for i in 0..count {
+        out[at + i] = number;
+    }
+}
+
+/// Copies numbers side by side.
+#[inline(always)]
+pub(crate) fn copy<T: Native>(out: &mut [T], at: usize, source: &[T], from: usize, count: usize)
+    requires out { at + count ≤ length out.old }
+    requires source { from + count ≤ length source.now }
+    ensures length { length out.new ≡ length out.old }
+    ensures each { (j : ℕ) → j < count → entry T.number out.new (at + j) ≡ entry T.number source.now (from + j) }
+    ensures before { (l : ℕ) → l < at → entry T.number out.new l ≡ entry T.number out.old l }
+    ensures behind { (l : ℕ) → at + count ≤ l → entry T.number out.new l ≡ entry T.number out.old l }
+{
+    for i in 0..count {
+        out[at + i] = source[from + i];
+    }
+}

@@ -1,18 +1,22 @@
-//! Reductions over strips: numbers folded into accumulators.
+//! Reductions and scans over strips: numbers folded into accumulators.
 //!
 //! A reduction along an axis has an accumulator for each number of its result. A walk in strips folds the numbers of each strip
-//! into them, in the order of the positions; here that is done for one strip, by runs of numbers that lie side by side.
+//! into them, in the order of the positions; here that is done for one strip, by runs of numbers that lie side by side. A scan
+//! carries the results of one row to the next.
 //!
-//! The promise: what an accumulator holds after the strip is what the fold of all positions up to its end gives. No call takes
-//! memory and none can fail.
+//! The promise: what an accumulator holds after the strip is what the fold of all positions up to its end gives, and the results of
+//! a scan are those of its lanes. No call takes memory and none can fail.
 //!
-//! The definitions: `gathered` of `arr_strips`, an accumulator after so many positions; `value` of `arr_num`; `entry` of
-//! `arr_native`, the number at a place of a list.
+//! The definitions: `gathered` of `arr_strips`, an accumulator after so many positions, and `scan_at`, the result of a scan at a
+//! position; `value` of `arr_num`; `entry` of `arr_native`, the number at a place of a list; `specs/Gathering.antt` and
+//! `specs/Scanning.antt` say what one strip adds.
 #![tactic(auto)]
 
 mod axis;
 mod folds;
+mod scan;
 mod strip;
 
 pub use axis::Axis;
+pub use scan::scan_strip;
 pub use strip::fold_strip;

@@ -2,7 +2,7 @@ ghost use Rattle.std.specs.Prelude.{ℕ, ℤ, ◌≡◌, ◌+◌, ◌*◌, ◌%�
 ghost use Rattle.arr_num.specs.Kinds.{is_fold};
 ghost use Rattle.arr_num.specs.Numbers.{value};
 ghost use Rattle.arr_native.specs.Entries.{entry};
-ghost use Rattle.arr_sums.specs.Gathering.{Gathers};
+ghost use Rattle.arr_sums.specs.Gathering.{FoldsOn};
 
 use crate::axis::Axis;
 use crate::folds::{fold_lane, fold_row};
@@ -28,7 +28,7 @@ pub fn fold_strip<T: Native>(
     requires inside { position + count ≤ axis.outer * (axis.length * axis.inner) }
     requires short { position + count ≤ 1048576 }
     ensures length { length sums.new ≡ length sums.old }
-    ensures gathered { Gathers (value code T.elem) axis.length axis.inner (length sums.old) (entry T.number sums.old) (entry T.number sums.new) (entry T.number source.now) position 0 count }
+    ensures gathered { FoldsOn (value code T.elem) axis.length axis.inner (length sums.old) (entry T.number sums.old) (entry T.number sums.new) (entry T.number source.now) position 0 count }
 {
     if axis.inner == 1 {
         fold_lanes(code, sums, source, position, count, axis);
@@ -54,7 +54,7 @@ fn fold_lanes<T: Native>(
     requires inside { position + count ≤ axis.outer * (axis.length * axis.inner) }
     requires short { position + count ≤ 1048576 }
     ensures length { length sums.new ≡ length sums.old }
-    ensures gathered { Gathers (value code T.elem) axis.length axis.inner (length sums.old) (entry T.number sums.old) (entry T.number sums.new) (entry T.number source.now) position 0 count }
+    ensures gathered { FoldsOn (value code T.elem) axis.length axis.inner (length sums.old) (entry T.number sums.old) (entry T.number sums.new) (entry T.number source.now) position 0 count }
 {
     let mut done = 0;
     while done < count {
@@ -85,7 +85,7 @@ fn fold_lane_part<T: Native>(
     requires lane { place % axis.length + run ≤ axis.length }
     requires inside { place < axis.outer * (axis.length * axis.inner) }
     ensures length { length sums.new ≡ length sums.old }
-    ensures gathered { Gathers (value code T.elem) axis.length axis.inner (length sums.old) (entry T.number sums.old) (entry T.number sums.new) (entry T.number source.now) place from run }
+    ensures gathered { FoldsOn (value code T.elem) axis.length axis.inner (length sums.old) (entry T.number sums.old) (entry T.number sums.new) (entry T.number source.now) place from run }
 {
     fold_lane(code, sums, place / axis.length, source, from, run);
 }
@@ -108,7 +108,7 @@ fn fold_rows<T: Native>(
     requires inside { position + count ≤ axis.outer * (axis.length * axis.inner) }
     requires short { position + count ≤ 1048576 }
     ensures length { length sums.new ≡ length sums.old }
-    ensures gathered { Gathers (value code T.elem) axis.length axis.inner (length sums.old) (entry T.number sums.old) (entry T.number sums.new) (entry T.number source.now) position 0 count }
+    ensures gathered { FoldsOn (value code T.elem) axis.length axis.inner (length sums.old) (entry T.number sums.old) (entry T.number sums.new) (entry T.number source.now) position 0 count }
 {
     let mut done = 0;
     while done < count {
@@ -140,7 +140,7 @@ fn fold_row_part<T: Native>(
     requires row { place % axis.inner + run ≤ axis.inner }
     requires inside { place < axis.outer * (axis.length * axis.inner) }
     ensures length { length sums.new ≡ length sums.old }
-    ensures gathered { Gathers (value code T.elem) axis.length axis.inner (length sums.old) (entry T.number sums.old) (entry T.number sums.new) (entry T.number source.now) place from run }
+    ensures gathered { FoldsOn (value code T.elem) axis.length axis.inner (length sums.old) (entry T.number sums.old) (entry T.number sums.new) (entry T.number source.now) place from run }
 {
     let row = place / axis.inner / axis.length * axis.inner;
     fold_row(code, sums, row + place % axis.inner, source, from, run);

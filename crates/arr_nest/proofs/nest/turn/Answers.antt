@@ -1,4 +1,4 @@
-use Rattle.std.proofs.Common.{rules, arith, ◌≡◌, ◌+◌, ◌-◌, ◌++◌, [], length, take, drop, ap, ap₂, sym, ◌∙◌}
+use Rattle.std.proofs.Common.{arith, ◌≡◌, ◌+◌, ◌-◌, ◌++◌, length, take, drop, ap, sym, ◌∙◌}
 use Rattle.arr_nest.specs.Indices.{after, zeros}
 use Rattle.arr_nest.proofs.Successor.{bump_found, bump_kept, bump_spent, below_set}
 use Rattle.arr_nest.proofs.nest.turn.Goals as goal

@@ -1,4 +1,4 @@
-use Rattle.std.proofs.Common.{◌≡◌, ◌∙◌, ◌+◌, ap, sym}
+use Rattle.std.proofs.Common.{◌∙◌, ◌+◌, ap, sym}
 use Rattle.arr_num.specs.Numbers.{value}
 use Rattle.arr_native.specs.Entries.{entry}
 use Rattle.arr_native.proofs.Entries.{entry_is, entry_set_same, entry_set_other}

@@ -1,4 +1,4 @@
-use Rattle.std.proofs.Common.{◌≡◌, ◌∙◌, ◌+◌, ap₂, sym, arith}
+use Rattle.std.proofs.Common.{◌∙◌, ◌+◌, ap₂, sym, arith}
 use Rattle.arr_num.specs.Numbers.{value}
 use Rattle.arr_native.specs.Entries.{entry}
 use Rattle.arr_native.proofs.Entries.{entry_is}

@@ -1,4 +1,4 @@
-use Rattle.std.proofs.Common.{◌≡◌, ◌∙◌, ◌+◌, ◌<◌, length, refl, arith}
+use Rattle.std.proofs.Common.{◌∙◌, ◌+◌, ◌<◌, length, refl, arith}
 use Rattle.std.proofs.Math.ListN.{length-set}
 use Rattle.arr_num.specs.Numbers.{value}
 use Rattle.arr_sums.proofs.Turns.{row_begins, row_more}

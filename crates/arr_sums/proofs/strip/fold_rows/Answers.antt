@@ -1,8 +1,8 @@
-use Rattle.std.proofs.Common.{◌≡◌, ◌∙◌, ◌+◌, ap, subst, length, refl, sym, arith, ◌-◌, ◌≤◌}
+use Rattle.std.proofs.Common.{◌∙◌, ◌+◌, subst, length, refl, sym, arith, ◌-◌, ◌≤◌}
 use Rattle.std.proofs.Math.Nat.{min-le_right}
 use Rattle.arr_num.specs.Numbers.{value}
 use Rattle.arr_native.specs.Entries.{entry}
-use Rattle.arr_sums.specs.Gathering.{Gathers}
+use Rattle.arr_sums.specs.Gathering.{FoldsOn}
 use Rattle.arr_sums.proofs.Parts.{gathers_none, gathers_more, part_below}
 use Rattle.arr_sums.proofs.strip.fold_rows.Goals as goal
 
@@ -24,6 +24,6 @@ loop-done-preserved g c =
       gathered = gathers_more v c.args.axis.length c.args.axis.inner (length c.args.sums.now) (entry g.T.Native.number c.args.sums.now) (entry g.T.Native.number c.loop-done.sums)
           (entry g.T.Native.number c.fold_row_part.new.sums) (entry g.T.Native.number c.args.source.now) c.args.position c.loop-done.done c.min-run.result c.loop-done.invariant.gathered
           (subst
-          (λ k. Gathers v c.args.axis.length c.args.axis.inner k (entry g.T.Native.number c.loop-done.sums) (entry g.T.Native.number c.fold_row_part.new.sums)
+          (λ k. FoldsOn v c.args.axis.length c.args.axis.inner k (entry g.T.Native.number c.loop-done.sums) (entry g.T.Native.number c.fold_row_part.new.sums)
           (entry g.T.Native.number c.args.source.now) (c.args.position + c.loop-done.done) c.loop-done.done c.min-run.result) c.loop-done.invariant.long c.fold_row_part.ensures.gathered);
     }

@@ -1,5 +1,5 @@
 use Rattle.std.proofs.Common.{rules, sym, ap, ◌∙◌, ◌≡◌, ◌∷◌, length}
-use Rattle.arr_nest.specs.Indices.{after, zeros, indices}
+use Rattle.arr_nest.specs.Indices.{after, zeros}
 use Rattle.arr_nest.proofs.Successor.{indices_first}
 use Rattle.arr_nest.proofs.nest.Nest.new.Goals as goal
 

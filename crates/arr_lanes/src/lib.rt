@@ -1,0 +1,21 @@
+//! Lanes: the numbers of a strip, side by side, and lines of opcodes over them.
+//!
+//! A walk in strips keeps, for each view of its block, a lane: the numbers that the view has at the positions of the strip. A
+//! [`Line`] is an operation over lanes, for all positions of the strip at once. Its result is computed into a spare list of its
+//! type, which then changes places with the lane that it is for; so a line may read the lane that it writes.
+//!
+//! The promise: after a line its lane holds the value of its opcode, as `arr_num` defines it, at each position, and every other
+//! lane is as it was; `run_lines` leaves what running the lines position by position leaves. No call but `Spares::new` takes memory.
+//!
+//! The definitions: `specs/Lanes.antt` has the number at a place of a lane, what a line computes (`work_value`), and the line of
+//! `arr_strips` that it stands for (`shown`); `ran` of `arr_strips` runs lines at one position.
+#![tactic(auto)]
+
+mod fill;
+mod lane;
+mod line;
+mod spares;
+
+pub use lane::Lane;
+pub use line::{Line, Work, run_lines};
+pub use spares::Spares;

@@ -1,0 +1,61 @@
+//! The calls that move many numbers at once.
+ghost use Rattle.std.specs.Prelude.{ℕ, ◌≡◌, ◌+◌, ◌*◌, ◌<◌, ◌≤◌, ◌^◌, get_or, length, pos, take};
+ghost use Rattle.arr_store.specs.Buffers.{cell_of};
+ghost use Rattle.arr_store.specs.Cells.{assigned, number_at, size_at, width_at};
+ghost use Rattle.arr_store.specs.Runs.{IsOf, LiesIn, run_place, with_run};
+ghost use Rattle.arr_store.specs.Stored.{cells};
+
+use crate::buffer::Buffer;
+use crate::runs::Run;
+use crate::store::Store;
+
+impl Store {
+    /// Copies the numbers of a run of a base to the front of a lane of its type; the bytes loaded rise by the width of that type
+    /// for each (docs/PLANS.md, "The store").
+    #[inline]
+    pub fn load_run(&mut self, base: u32, run: Run, lane: &mut Buffer)
+        requires base { IsOf (cell_of lane.old).elem (cells self.old base) }
+        requires lane { run.count ≤ length (cell_of lane.old).numbers }
+        requires there { LiesIn (size_at (cells self.old base)) run.start run.stride run.count }
+        requires few { run.count ≤ 1048576 }
+        requires room { self.old.loads < 2 ^ 62 }
+        ensures each { (i : ℕ) → i < run.count → get_or (cell_of lane.new).numbers i (pos 0) ≡ number_at (cells self.old base) (run_place run.start run.stride i) }
+        ensures elem { (cell_of lane.new).elem ≡ (cell_of lane.old).elem }
+        ensures length { length (cell_of lane.new).numbers ≡ length (cell_of lane.old).numbers }
+        ensures bases { self.new.bases ≡ self.old.bases }
+        ensures loads { self.new.loads ≡ self.old.loads + run.count * width_at (cells self.old base) }
+        ensures stores { self.new.stores ≡ self.old.stores }
+        ensures made { self.new.made ≡ self.old.made }
+    {
+        match self.buffers.get(self.index[base as usize]) {
+            Some(kept) => {
+                self.loads += kept.buffer.bytes(run.count);
+                kept.buffer.load_run(run, lane);
+            }
+            None => unreachable!(),
+        }
+    }
+
+    /// Copies the front of a lane of the type of a base to the places of a run of it; the bytes stored rise by the width of that
+    /// type for each (docs/PLANS.md, "The store").
+    #[inline]
+    pub fn store_run(&mut self, base: u32, run: Run, lane: &Buffer)
+        requires base { IsOf (cell_of lane.now).elem (cells self.old base) }
+        requires lane { run.count ≤ length (cell_of lane.now).numbers }
+        requires there { LiesIn (size_at (cells self.old base)) run.start run.stride run.count }
+        requires few { run.count ≤ 1048576 }
+        requires room { self.old.stores < 2 ^ 62 }
+        ensures bases { cells self.new ≡ assigned (cells self.old) base (with_run (cells self.old base) run.start run.stride run.count (take run.count (cell_of lane.now).numbers)) }
+        ensures loads { self.new.loads ≡ self.old.loads }
+        ensures stores { self.new.stores ≡ self.old.stores + run.count * width_at (cells self.old base) }
+        ensures made { self.new.made ≡ self.old.made }
+    {
+        match self.buffers.get_mut(self.index[base as usize]) {
+            Some(kept) => {
+                self.stores += kept.buffer.bytes(run.count);
+                kept.buffer.store_run(run, lane);
+            }
+            None => unreachable!(),
+        }
+    }
+}

@@ -1,0 +1,18 @@
+use Rattle.std.proofs.Common.{◌≡◌, ◌≤◌, ◌-◌, length}
+use Rattle.arr_num.specs.Numbers.{value}
+use Rattle.arr_native.specs.Entries.{entry}
+use Rattle.arr_sums.specs.Scanning.{ScansOn}
+use Rattle.arr_sums.proofs.scan.scan_lanes.Given as goal
+
+abbrev pub invariant-loop-done : goal.invariant-loop-done
+invariant-loop-done g l =
+    record {
+      long_out : length l.out ≡ length l.fn.out;
+      long : length l.carries ≡ length l.fn.carries;
+      below : l.done ≤ l.count;
+      scanned : ScansOn (value l.code g.T.Native.elem) (g.T.Native.number l.start) l.axis.length l.axis.inner (entry g.T.Native.number l.fn.carries) (entry g.T.Native.number l.carries)
+          (entry g.T.Native.number l.out) (entry g.T.Native.number l.source) l.position 0 l.done;
+    }
+
+abbrev pub decreases-loop-done : goal.decreases-loop-done
+decreases-loop-done g l = l.count - l.done
