@@ -3,6 +3,9 @@ own slices, and by hand."""
 
 # Scripts, and the arrays that they print.
 ARRAYS = [
+    ('a = range(5) * 10\ni = range(3) - 1\nb = gather(a, i)\nprint b\n', 'i64 3\n40 0 10\n'),
+    ('a = range(4)\nscatter(a, range(3) * 0, range(3) + 7)\nprint a\n', 'i64 4\n9 1 2 3\n'),
+    ('a = range(4) + 1\nscatter(a, a, a)\nprint a\n', 'i64 4\n4 1 2 3\n'),
     ('a = range(5)\nprint a\n', 'i64 5\n0 1 2 3 4\n'),
     ('a = range(5)\na[1:5] = a[0:4]\nprint a\n', 'i64 5\n0 0 1 2 3\n'),
     ('a = range(5)\na[:] = a[::-1]\nprint a\n', 'i64 5\n4 3 2 1 0\n'),
@@ -57,6 +60,9 @@ ARRAYS = [
 
 # Scripts that the rules of names, types and shapes refuse, and the lines of their refusals.
 REFUSALS = [
+    ('a = gather(3, range(2))\n', 'refused 1:12 TypeMismatch\n'),
+    ('a = range(4)\nscatter(a, range(2), range(3))\n', 'refused 2:1 ShapeMismatch\n'),
+    ('print gather(range(3), range(2))\n', 'refused 1:7 Unexpected\n'),
     ('a = range(3)\nprint a\nb = a + range(4)\n', 'refused 3:7 ShapeMismatch\n'),
     ('a = range(5)\nbroadcast(a, [3,5]) = 1\n', 'refused 2:21 OutputRepeats\n'),
     ('a = full([2], 9223372036854775808, i64)\n', 'refused 1:15 LiteralRange\n'),
@@ -189,7 +195,6 @@ TEXTS = [
     (b'del print', 'refused 1:5 Unexpected\n'),
     (b'flush a', 'refused 1:7 Unexpected\n'),
     (b'flush flush', 'refused 1:7 Unexpected\n'),
-    (b'scatter(a, b, c)', 'refused 1:1 Unexpected\n'),
     (b'u8 = 1', 'refused 1:1 Unexpected\n'),
     (b'print a,', 'refused 1:8 Unexpected\n'),
     (b'= 1', 'refused 1:1 Unexpected\n'),

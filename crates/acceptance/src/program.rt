@@ -16,6 +16,19 @@ const USAGE: &str =
 
 const SUM: &str = "a = range(5)\nc = a + a\nprint c\n";
 
+#[test]
+fn scripts_print_their_arrays(rt: HostRuntime) -> Result<(), Fail> {
+    let alloc = rt.alloc();
+    let ran = run(alloc, &["run"], SUM.as_bytes(), 0, 4096, 0)?;
+    assert_eq!(rt; ran.status, 0);
+    assert_eq!(rt; ran.written.as_slice(), b"i64 5\n0 2 4 6 8\n".as_slice());
+    let named = b"a = range(4) + 1\nscatter(a, a, a)\nb = gather(a, range(3) - 1)\nprint b\n";
+    let ran = run(alloc, &["run"], named, 0, 4096, 0)?;
+    assert_eq!(rt; ran.status, 0);
+    assert_eq!(rt; ran.written.as_slice(), b"i64 3\n3 4 1\n".as_slice());
+    Ok(())
+}
+
 /// Whether words that name no command get the usage line, and status 4 where it can't be written.
 fn are_unknown(rt: &impl Abort, alloc: Global, words: &[&str]) -> Result<(), NoMemory> {
     let ran = run(alloc, words, SUM.as_bytes(), 1, 4096, 0)?;
