@@ -1,5 +1,5 @@
 -- No two certificates have one text.
-use Rattle.std.proofs.Common.{◌≡◌, ◌≢◌, ℕ, ◌+◌, ◌^◌, ◌<◌, ◌≤◌, List, [], ◌∷◌, ◌++◌, length, get_or, drop, take, Bool, true, false, cond, not, ◌&&◌, ◌||◌, refl, sym, ap, ◌∙◌, subst, arith, append_assoc, decimal}
+use Rattle.std.proofs.Common.{◌≡◌, ◌≢◌, ℕ, ◌^◌, ◌<◌, ◌≤◌, List, [], ◌∷◌, ◌++◌, length, get_or, drop, Bool, true, false, cond, not, ◌&&◌, ◌||◌, refl, sym, ap, ◌∙◌, subst, arith, append_assoc, decimal}
 use Rattle.std.specs.Prelude.{nat_lt, nat_le, ◌==◌}
 use Rattle.std.specs.List.{flat_map, list_all}
 use Rattle.std.specs.Char.{digit_value}
@@ -7,12 +7,11 @@ use Rattle.std.specs.Str.Parse.{AllDigits}
 use Rattle.std.proofs.lemmas.Bool.{and_parts, and_from, ltb-true, leb-true, eqb-true, eqb-false, true≢false}
 use Rattle.std.proofs.lemmas.Fmt.{decimal_is_IsNumeral, decimal_injective}
 use Rattle.arr_ops.proofs.Tests.{or_cases}
-use Rattle.arr_law.specs.declared.certificate.Certificate.{Certificate}
 use Rattle.arr_law.specs.declared.charge.Charge.{Charge}
 use Rattle.arr_law.specs.declared.record.Record.{Record}
 use Rattle.arr_law.specs.declared.record.Record.TheVariants.{Flush, Plan, Cost, Bound, Step, Branch, Dead, Worth, End}
 use Rattle.arr_law.specs.Verdict.{records_of}
-use Rattle.arr_cert.specs.Texts.{behind, spaced, first_text, group_text, version_numbers, takes_two, third_numbers, record_text, line_text, is_group_spelled, is_spelled}
+use Rattle.arr_cert.specs.Texts.{behind, spaced, first_text, group_text, version_numbers, takes_two, third_numbers, line_text, is_group_spelled, is_spelled}
 use Rattle.arr_cert.specs.Laws.{numbers_of, is_plain, TextsDiffer}
 
 -- ---- what stands behind a number

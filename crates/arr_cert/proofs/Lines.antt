@@ -1,13 +1,13 @@
 -- The lines of records, from their parts.
-use Rattle.std.proofs.Common.{◌≡◌, ◌≢◌, ℕ, suc, zero, ◌+◌, ◌<◌, ◌≤◌, List, [], ◌∷◌, ◌++◌, length, take, drop, Option, Some, Result, Ok, Bool, true, false, cond, refl, sym, ap, ap₂, ◌∙◌, subst, arith, append_assoc, codes, decimal}
-use Rattle.std.specs.Prelude.{slice_get, ◌==◌}
+use Rattle.std.proofs.Common.{◌≡◌, ◌≢◌, ℕ, suc, zero, ◌+◌, ◌≤◌, List, [], ◌∷◌, ◌++◌, length, take, drop, Option, Some, Result, Ok, true, false, cond, refl, sym, ap, ap₂, ◌∙◌, arith, append_assoc, codes, decimal}
+use Rattle.std.specs.Prelude.{slice_get}
 use Rattle.std.specs.List.{flat_map}
 use Rattle.std.proofs.lemmas.Bool.{eq-eqb, ne_eqb}
 use Rattle.std.proofs.lemmas.List.{append-nil}
 use Rattle.arr_law.specs.declared.certificate.Certificate.{Certificate}
 use Rattle.arr_law.specs.declared.record.Record.{Record}
 use Rattle.arr_law.specs.declared.record.Record.TheVariants.{Flush, Plan, Cost, Bound, Step, End}
-use Rattle.arr_cert.specs.Texts.{behind, spaced, first_text, version_numbers, takes_two, third_numbers, record_text, line_text, certificate_text}
+use Rattle.arr_cert.specs.Texts.{behind, spaced, first_text, version_numbers, takes_two, third_numbers, line_text, certificate_text}
 use Rattle.arr_cert.specs.Wrote.{Wrote, WroteMore}
 use Rattle.arr_cert.proofs.Writes.{wrote_both, wrote_whole, pieces_at}
 
