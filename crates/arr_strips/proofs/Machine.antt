@@ -1,11 +1,11 @@
 -- A strip of registers: loads, lines and stores carry the walk on.
 use Rattle.std.proofs.Common.{◌≡◌, ℕ, ◌+◌, ◌-◌, ◌≤◌, ◌<◌, ℤ, List, [], ◌∷◌, true, false, cond, ◌||◌, refl, ap, sym, ◌∙◌, arith}
-use Rattle.std.proofs.lemmas.Bool.{ltb-true}
+use Rattle.std.proofs.lemmas.Bool.{ltb-true, false≢true}
 use Rattle.std.specs.Prelude.{nat_lt}
 use Rattle.std.specs.List.{AllByRecursion, list_any, flat_map}
 use Rattle.arr_view.specs.Strided.{Strided}
 use Rattle.arr_view.specs.Views.{identical}
-use Rattle.arr_num.specs.Kinds.{kind}
+use Rattle.arr_num.specs.Kinds.{Kind, Binary, Unary, Counting, Reduction, Scan, Ending, Printing, kind, binds_two, binds_one, counts, is_element_wise}
 use Rattle.arr_ops.specs.declared.op.Op.{Op}
 use Rattle.arr_ops.specs.Ops.{outputs, inputs, views}
 use Rattle.arr_ops.specs.Memory.{Memory}
@@ -18,16 +18,12 @@ use Rattle.arr_strips.specs.Columns.{Columns, place_at, ends, filled}
 use Rattle.arr_strips.proofs.Eager.{outs_filled}
 use Rattle.arr_strips.specs.Strips.{Bases, loaded, joined, stored}
 use Rattle.arr_strips.specs.Blocks.{is_block, block_positions, stores}
-use Rattle.arr_strips.specs.Registers.{Registers, number_in, ran, lines_of, row_of}
-use Rattle.arr_strips.specs.Laws.{WalkedBlock}
+use Rattle.arr_strips.specs.Registers.{Registers, number_in, ran, lines_of, register_views, columns_from}
+use Rattle.arr_strips.specs.Laws.{WalkedBlock, LinesGoOn}
 use Rattle.arr_strips.proofs.Values.{zips}
 use Rattle.arr_strips.proofs.Sames.{or_true, identical_itself, any_append, any_distinct}
 use Rattle.arr_strips.proofs.Registers.{ends_ran}
 use Rattle.arr_strips.proofs.StripLaws.{go_on}
-
--- the views of a block, one of each kind: its registers
-abbrev pub register_views : List Op → List Strided
-register_views ops = distinct identical (flat_map views ops)
 
 self_any : (vs : List Strided) → AllByRecursion (λ v. list_any (λ w. identical w v) vs ≡ true) vs
 self_any [] = tt
@@ -50,10 +46,6 @@ pub has_register : (ops : List Op) → AllByRecursion (λ (k : Op). AllByRecursi
 has_register ops =
     All_weaker (λ (k : Op). AllByRecursion (λ v. list_any (λ w. identical w v) (flat_map views ops) ≡ true) (views k)) (λ (k : Op). AllByRecursion (λ v. loaded (register_views ops) v ≡ true) (views k))
     (λ k h. All_weaker (λ v. list_any (λ w. identical w v) (flat_map views ops) ≡ true) (λ v. loaded (register_views ops) v ≡ true) (λ v g. any_distinct v (flat_map views ops) g) (views k) h) ops (in_views ops)
-
--- registers at each place of a strip that begins at p, as columns
-abbrev pub columns_from : List Strided → ℕ → (ℕ → Registers) → Columns
-columns_from vs p regs q = row_of vs (regs (q - p))
 
 -- loads into the registers, lines at each place, stores: the walk goes on by c positions
 pub strip_goes_on : (ops : List Op) (m : Memory) (p c : ℕ) (now : Bases) → is_block ops ≡ true → fits m ops ≡ true
@@ -93,3 +85,20 @@ strip_goes_on ops m p c now is fit flats within w before after loads runs =
     all : (xs : List Strided) → AllByRecursion (λ v. (i : ℕ) → p ≤ i → i < p + c → columns_from vs p after i v ≡ ends ops (joined p w.begun (columns_from vs p before)) i v) xs
     all [] = tt
     all (x ∷ xs) = (one x, all xs)
+
+-- element-wise codes, kind by kind
+element_wise : (k : Kind) → (binds_two k || (binds_one k || counts k)) ≡ true → zips k ≡ true
+element_wise Binary h = refl
+element_wise Unary h = refl
+element_wise Counting h = refl
+element_wise Reduction h = absurd (false≢true h)
+element_wise Scan h = absurd (false≢true h)
+element_wise Ending h = absurd (false≢true h)
+element_wise Printing h = absurd (false≢true h)
+
+pub lines_go_on : LinesGoOn
+lines_go_on ops m p c now is fit flats within w before after loads runs =
+    strip_goes_on ops m p c now is fit
+    (All_weaker (λ (op : Op). AllByRecursion (λ (o : Strided). is_element_wise op.code ≡ true) (filled op)) (λ (op : Op). AllByRecursion (λ (o : Strided). zips (kind op.code) ≡ true) (filled op))
+    (λ op h. All_weaker (λ (o : Strided). is_element_wise op.code ≡ true) (λ (o : Strided). zips (kind op.code) ≡ true) (λ o e. element_wise (kind op.code) e) (filled op) h) ops flats)
+    within w before after loads runs

@@ -12,6 +12,7 @@ use Rattle.arr_ops.specs.Memory.{Cell, Writes, changed, write}
 use Rattle.arr_strips.specs.Columns.{Columns, place_at}
 use Rattle.arr_strips.specs.Strips.{Bases, put_at, part, lane_of}
 use Rattle.arr_store.specs.Runs.{moved, run_place, run_places}
+use Rattle.arr_strips.specs.Laws.{PartsOfRows}
 use Rattle.arr_strips.proofs.Rows.{row_place}
 
 -- ---- one segment after another
@@ -54,9 +55,7 @@ moved_more z s zero i = ap (moved z s) (let e : 0 + i ≡ i = omega arith in e)
 moved_more z s (suc j) i = ap (moved z s) (let e : suc j + i ≡ suc (j + i) = omega arith in e) ∙ moved_more (z +ℤ s) s j i
 
 -- a segment inside the row of p, whose first place is a, is a run of the row's stride
-pub segment : (v : Strided) (ns : List ℕ) (ss : List ℤ) (m : ℕ) (s : ℤ) → v.lengths ≡ ns ++ m ∷ [] → v.strides ≡ ss ++ s ∷ [] → length ns ≡ length ss
-    → (p c a : ℕ) → p / m < length (places ns ss (pos v.start)) → moved (get_or (places ns ss (pos v.start)) (p / m) (pos 0)) s (p % m) ≡ pos a → p % m + c ≤ m
-    → part v p c ≡ run_places a s c
+pub segment : PartsOfRows
 segment v ns ss m s el es e p c a row start fits =
     let left : length (part v p c) ≡ c = length-map (range_with_len p c) (place_at v) ∙ length-range_with_len p c in
     let right : length (run_places a s c) ≡ c = length-map (range_with_len 0 c) (run_place a s) ∙ length-range_with_len 0 c in

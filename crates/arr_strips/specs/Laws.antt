@@ -1,5 +1,5 @@
 -- What is promised of walks by strips.
-use Rattle.std.specs.Prelude.{ℕ, ℤ, suc, pos, true, ◌≡◌, ◌+◌, ◌*◌, ◌<◌, ◌≤◌, List, ◌∷◌, ◌++◌, IsTrue, not, length, get_or, take, drop}
+use Rattle.std.specs.Prelude.{ℕ, ℤ, suc, pos, true, ◌≡◌, ◌+◌, ◌*◌, ◌/◌, ◌%◌, ◌<◌, ◌≤◌, List, [], ◌∷◌, ◌++◌, IsTrue, not, length, get_or, take, drop}
 use Rattle.std.specs.List.{AllByRecursion, list_all}
 use Rattle.arr_view.specs.Strided.{Strided}
 use Rattle.arr_ops.specs.declared.op.Op.{Op}
@@ -10,10 +10,13 @@ use Rattle.arr_ops.specs.Fits.{fits}
 use Rattle.arr_ops.specs.Plans.{is_legal, numbered, ops_of}
 use Rattle.arr_ops.specs.Costs.{reads, writes, total, weight, elem_of}
 use Rattle.arr_num.specs.Numbers.{width}
-use Rattle.arr_view.specs.Views.{positions}
+use Rattle.arr_num.specs.Kinds.{is_element_wise}
+use Rattle.arr_view.specs.Views.{places, positions}
+use Rattle.arr_store.specs.Runs.{moved, run_places}
 use Rattle.arr_store.specs.Cells.{number_at}
-use Rattle.arr_strips.specs.Columns.{Columns, place_at, ends, opened, dropped, slots_end, results_at}
-use Rattle.arr_strips.specs.Strips.{Bases, Walked, loaded, joined, stored, closed}
+use Rattle.arr_strips.specs.Columns.{Columns, filled, place_at, ends, opened, dropped, slots_end, results_at}
+use Rattle.arr_strips.specs.Registers.{Registers, number_in, ran, lines_of, register_views, columns_from}
+use Rattle.arr_strips.specs.Strips.{Bases, Walked, loaded, joined, part, stored, closed}
 use Rattle.arr_strips.specs.Blocks.{is_block, block_positions, stores, fold_stores}
 use Rattle.arr_strips.specs.Sums.{gathered_by, AllGathered, StartSums, closed_by}
 
@@ -53,6 +56,24 @@ StripsGoOn =
     → (here done : Columns) → Loads ops p c now here
     → AllByRecursion (λ v. (i : ℕ) → p ≤ i → i < p + c → done i v ≡ ends ops (joined p w.begun here) i v) (stores ops)
     → (v : WalkedBlock ops m (p + c) (stored p c done (stores ops) now)) × (v.begun ≡ joined p w.begun here)
+
+-- the same by registers, place by place in the strip: what the loads leave, what the lines leave, and what is stored; no
+-- operation that fills a column is a scan
+abbrev pub LinesGoOn : Type 0
+LinesGoOn =
+    (ops : List Op) (m : Memory) (p c : ℕ) (now : Bases) → IsTrue (is_block ops) → IsTrue (fits m ops)
+    → AllByRecursion (λ (op : Op). AllByRecursion (λ (o : Strided). is_element_wise op.code ≡ true) (filled op)) ops → p + c ≤ block_positions ops → (w : WalkedBlock ops m p now)
+    → (before after : ℕ → Registers)
+    → ((v : Strided) → loaded (reads ops) v ≡ true → (i : ℕ) → i < c → before i (number_in (register_views ops) v) ≡ number_at (now v.base) (place_at v (p + i)))
+    → ((i : ℕ) → i < c → after i ≡ ran (p + i) (lines_of (register_views ops) ops) (before i))
+    → (v : WalkedBlock ops m (p + c) (stored p c (columns_from (register_views ops) p after) (stores ops) now)) × (v.begun ≡ joined p w.begun (columns_from (register_views ops) p before))
+
+-- where positions of one row stand: in a run of the row's stride, from the place of the first of them
+abbrev pub PartsOfRows : Type 0
+PartsOfRows =
+    (v : Strided) (ns : List ℕ) (ss : List ℤ) (m : ℕ) (s : ℤ) → v.lengths ≡ ns ++ m ∷ [] → v.strides ≡ ss ++ s ∷ [] → length ns ≡ length ss
+    → (p c a : ℕ) → p / m < length (places ns ss (pos v.start)) → moved (get_or (places ns ss (pos v.start)) (p / m) (pos 0)) s (p % m) ≡ pos a → p % m + c ≤ m
+    → part v p c ≡ run_places a s c
 
 -- ---- reductions
 

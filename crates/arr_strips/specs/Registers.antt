@@ -1,5 +1,6 @@
 -- Registers: identical views have one number.
-use Rattle.std.specs.Prelude.{ℕ, suc, ℤ, pos, ◌==◌, List, [], ◌∷◌, ◌++◌, cond, Option, Some, None}
+use Rattle.std.specs.Prelude.{ℕ, suc, ℤ, pos, ◌-◌, ◌==◌, List, [], ◌∷◌, ◌++◌, cond, Option, Some, None}
+use Rattle.std.specs.List.{flat_map}
 use Rattle.arr_view.specs.Strided.{Strided}
 use Rattle.arr_view.specs.Views.{identical}
 use Rattle.arr_num.specs.Numbers.{value}
@@ -9,7 +10,9 @@ use Rattle.arr_num.specs.declared.code.Code.TheVariants.{Range}
 use Rattle.arr_ops.specs.declared.op.Op.{Op}
 use Rattle.arr_ops.specs.declared.op.Operand.{Operand}
 use Rattle.arr_ops.specs.declared.op.Operand.TheVariants.{Array, Number}
-use Rattle.arr_strips.specs.Columns.{Row, fills}
+use Rattle.arr_ops.specs.Ops.{views}
+use Rattle.arr_ops.specs.Costs.{distinct}
+use Rattle.arr_strips.specs.Columns.{Row, Columns, fills}
 
 -- the place of the first view in the list that is identical to it
 abbrev pub number_in : List Strided → Strided → ℕ
@@ -68,3 +71,11 @@ lines_of vs (op ∷ ops) = line_at vs op (fills op) ++ lines_of vs ops
 -- a row of numbers for views, from registers
 abbrev pub row_of : List Strided → Registers → Row
 row_of vs regs v = regs (number_in vs v)
+
+-- the views of a block, one of each kind: its registers
+abbrev pub register_views : List Op → List Strided
+register_views ops = distinct identical (flat_map views ops)
+
+-- registers at each place of a strip that begins at p, as columns
+abbrev pub columns_from : List Strided → ℕ → (ℕ → Registers) → Columns
+columns_from vs p regs q = row_of vs (regs (q - p))

@@ -1,5 +1,5 @@
 ghost use Rattle.arr_strips.specs.Laws.{BlocksOfPlans, StripsBegin, StripsGoOn, StripsKeepBases, StripsKeepSlots};
-ghost use Rattle.arr_strips.specs.Laws.{Gathers, ReadsWeigh, SumsBegin, SumsEnd, SumsGoOn, WritesWeigh};
+ghost use Rattle.arr_strips.specs.Laws.{Gathers, LinesGoOn, PartsOfRows, ReadsWeigh, SumsBegin, SumsEnd, SumsGoOn, WritesWeigh};
 
 /// The operations of a block of a legal plan, none of them serial, are what the laws below ask (docs/PLANS.md, "Legal plans").
 pub fn blocks_of_plans()
@@ -14,6 +14,16 @@ pub fn strips_begin()
 /// One strip more: loads at its positions, computes its columns, and stores the views that are written, one after another.
 pub fn strips_go_on()
     ensures { StripsGoOn }
+{}
+
+/// One strip more, by registers: loads, lines over the registers at each place of the strip, stores.
+pub fn lines_go_on()
+    ensures { LinesGoOn }
+{}
+
+/// Positions of a view that lie in one row stand in a run of places, as far apart as the stride of its last dimension.
+pub fn parts_of_rows()
+    ensures { PartsOfRows }
 {}
 
 /// A block that is walked to its end leaves the bases that its operations leave, once the results of its reductions are written

@@ -1,4 +1,4 @@
-use Rattle.std.proofs.Common.{◌≡◌, ◌∙◌, pos, get_or, ap, arith, rules, to_z}
+use Rattle.std.proofs.Common.{◌∙◌, pos, get_or, ap, arith, rules, to_z}
 use Rattle.std.proofs.Math.ListN.{length-set}
 use Rattle.std.specs.Int.{w32, w64}
 use lib.IntN.{nat_abs}

@@ -1,4 +1,4 @@
-use Rattle.std.proofs.Common.{◌≡◌, ◌∙◌, ◌<◌, pos, map, length, set, take, ap, sym, subst, arith, rules, to_z}
+use Rattle.std.proofs.Common.{◌∙◌, ◌<◌, pos, map, length, set, take, ap, sym, subst, arith, rules, to_z}
 use Rattle.std.proofs.Math.ListN.{length-set}
 use Rattle.std.proofs.lemmas.List.{map-set, length-map}
 use Rattle.std.specs.Int.{w32, w64}

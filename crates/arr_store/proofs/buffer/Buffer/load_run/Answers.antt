@@ -1,4 +1,4 @@
-use Rattle.std.proofs.Common.{◌≡◌, ◌∙◌, pos, map, get_or, length, drop, ap, sym, arith}
+use Rattle.std.proofs.Common.{◌∙◌, pos, map, get_or, length, drop, ap, sym, arith}
 use Rattle.arr_store.specs.Buffers.{cell_of}
 use Rattle.arr_store.specs.Runs.{run_place}
 use Rattle.arr_store.proofs.Places.{taken_front, get_pos}
