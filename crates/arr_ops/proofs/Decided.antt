@@ -1,5 +1,5 @@
 -- What the parts of a view decide of its elements.
-use Rattle.std.proofs.Common.{◌≡◌, ℕ, zero, suc, ◌≤◌, ◌<◌, pos, List, [], ◌∷◌, Bool, true, false, ◌&&◌, refl, ap, ap₂, sym, ◌∙◌, arith, get_or, map}
+use Rattle.std.proofs.Common.{◌≡◌, ℕ, zero, suc, ◌≤◌, ◌<◌, pos, List, [], ◌∷◌, Bool, true, ◌&&◌, refl, ap, ap₂, sym, ◌∙◌, arith, get_or, map}
 use Rattle.std.proofs.lemmas.Bool.{false≢true, eqb-true, leb-true, lt-ltb, ltb-true, and_parts}
 use Rattle.std.specs.Prelude.{◌==◌, nat_lt, nat_le}
 use Rattle.std.specs.List.{list_all, range_with_len}

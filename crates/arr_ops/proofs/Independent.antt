@@ -3,9 +3,9 @@ use Rattle.std.proofs.Common.{◌≡◌, ◌∷◌, ◌++◌, true, Option, Some
 use Rattle.std.proofs.lemmas.Bool.{and_from}
 use Rattle.std.specs.List.{AllByRecursion}
 use Rattle.arr_num.specs.declared.elem.Elem.{Elem}
-use Rattle.arr_num.specs.declared.elem.Elem.TheVariants.{U8, I32, I64, U64}
 use Rattle.arr_num.specs.Numbers.{in_type}
 use Rattle.arr_view.specs.Strided.{Strided}
+pub use Rattle.arr_num.specs.Types.{same_elem_refl}
 use Rattle.arr_ops.specs.Ops.{inputs}
 use Rattle.arr_ops.specs.Memory.{Cell, eager}
 use Rattle.arr_ops.specs.Formed.{same_elem}
@@ -20,12 +20,6 @@ pub independent_commute : IndependentCommute
 independent_commute front between back f g m formed apart =
     let beside : AllByRecursion (Beside f) (between ++ g ∷ back) = pairs_after Beside front f (between ++ g ∷ back) (beside_all (front ++ f ∷ (between ++ g ∷ back)) formed) in
     commute_beside f g (all_right (Beside f) between (g ∷ back) beside).0 apart m
-
-pub same_elem_refl : (t : Elem) → same_elem t t ≡ true
-same_elem_refl U8 = refl
-same_elem_refl I32 = refl
-same_elem_refl I64 = refl
-same_elem_refl U64 = refl
 
 cell_test : (t : Elem) (c : Option Cell) → CellFits t c → holds_type t c ≡ true
 cell_test t None h = refl

@@ -1,7 +1,6 @@
 -- The tests of well_formed, part by part.
 use Rattle.std.proofs.Common.{◌≡◌, ℕ, suc, ◌+◌, ◌-◌, ◌≤◌, ◌<◌, List, [], ◌∷◌, ◌++◌, Bool, true, false, cond, not, ◌||◌, ◌&&◌, length, get_or, take, drop, refl, ap, ap₂, sym, ◌∙◌, arith, length-drop}
 use Rattle.std.specs.Prelude.{nat_le, ◌==◌, is_some, is_none, Option, Some, None}
-use Rattle.std.specs.List.{range_with_len}
 use Rattle.std.proofs.lemmas.Bool.{and_parts, false≢true, le-leb, ne_eqb, eq-eqb}
 use Rattle.std.proofs.lemmas.List.{at_drop_more, at_drop_all, take-append-drop}
 use Rattle.arr_view.specs.Strided.{Strided}
@@ -46,16 +45,6 @@ repeats_more xs i l h = at_drop_more repeated xs i 0 l ∙ ap (λ b. b || repeat
 
 pub repeats_here : (xs : List ℕ) (i : ℕ) → i < length xs → has (drop (i + 1) xs) (get_or xs i 0) ≡ true → repeated (drop i xs) ≡ true
 repeats_here xs i l h = at_drop_more repeated xs i 0 l ∙ ap (λ b. b || repeated (drop (i + 1) xs)) h
-
--- xs from place i on, against i, i + 1 and so on
-pub counts_more : (xs : List ℕ) (i n : ℕ) → i < length xs → i < n → same_lists (drop i xs) (range_with_len i (n - i)) ≡ ((get_or xs i 0 == i) && same_lists (drop (i + 1) xs) (range_with_len (i + 1) (n - (i + 1))))
-counts_more xs i n l k =
-    at_drop_more (λ ys. same_lists ys (range_with_len i (n - i))) xs i 0 l
-    ∙ ap (λ m. same_lists (get_or xs i 0 ∷ drop (i + 1) xs) (range_with_len i m)) (let e : n - i ≡ suc (n - (i + 1)) = omega arith in e)
-
-pub counts_end : (xs : List ℕ) (i n : ℕ) → length xs ≤ i → n ≤ i → same_lists (drop i xs) (range_with_len i (n - i)) ≡ true
-counts_end xs i n l k =
-    at_drop_all (λ ys. same_lists ys (range_with_len i (n - i))) xs i l ∙ ap (λ m. same_lists [] (range_with_len i m)) (let e : n - i ≡ 0 = omega arith in e)
 
 pub length-elements : (v : Strided) → is_view v ≡ true → length (elements v) ≡ positions v.lengths
 unfolding elements

@@ -10,11 +10,11 @@ use Rattle.arr_ops.specs.Ops.{outputs, inputs, views, freed}
 use Rattle.arr_num.specs.Kinds.{kind, Kind, Binary, Unary, Counting, Reduction, Scan, Ending, Printing}
 use Rattle.arr_num.specs.Numbers.{in_type}
 use Rattle.arr_ops.specs.Memory.{Memory, Cell, eager}
+pub use Rattle.arr_num.specs.Types.{same_elem_is}
 use Rattle.arr_ops.specs.Formed.{is_formed, well_formed, inside_made, same_types, typed, may_precede, slot_numbers, kind_kept, operands_kept, types_kept, elementwise, plain, same_shape, same_elem}
 use Rattle.arr_ops.specs.Fits.{fits, op_fits, needs, Need, meets_need}
 use Rattle.arr_ops.specs.Ops.{creates, makes_base}
 use Rattle.arr_num.specs.declared.elem.Elem.{Elem}
-use Rattle.arr_num.specs.declared.elem.Elem.TheVariants.{U8, I32, I64, U64}
 use Rattle.arr_ops.specs.declared.op.Op.{Op}
 use Rattle.arr_ops.proofs.Pairs.{Pairs, All_weaker}
 use Rattle.arr_ops.proofs.Tests.{both_left, both_right, all_of, pairs_of, same_from_test, or_cases}
@@ -50,13 +50,6 @@ pairs_after R (x ∷ xs) y ys h = pairs_after R xs y ys h.1
 pub none_from : {X : Type 0} (x : Option X) → is_none x ≡ true → x ≡ None
 none_from None h = refl
 none_from (Some y) h = absurd (false≢true h)
-
-pub same_elem_is : (s t : Elem) → same_elem s t ≡ true → s ≡ t
-same_elem_is U8 U8 h = refl
-same_elem_is I32 I32 h = refl
-same_elem_is I64 I64 h = refl
-same_elem_is U64 U64 h = refl
-same_elem_is _ _ h = absurd (false≢true h)
 
 -- ---- a formed list, its rules by name
 

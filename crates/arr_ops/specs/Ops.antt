@@ -1,5 +1,5 @@
 -- Which views an operation has, and when two operations fuse or depend on one another.
-use Rattle.std.specs.Prelude.{ℕ, List, [], ◌∷◌, ◌++◌, Bool, true, false, ◌||◌, ◌&&◌, not, ◌==◌, map, Option, Some, cond, None}
+use Rattle.std.specs.Prelude.{ℕ, List, ◌∷◌, ◌++◌, Bool, true, false, ◌||◌, ◌&&◌, not, ◌==◌, map, Option, Some, cond, None}
 use Rattle.std.specs.List.{list_any}
 use Rattle.std.specs.Option.{option_to_list}
 use Rattle.arr_num.specs.Kinds.{Kind, Ending, Printing, is_reduction, walks_input}

@@ -32,4 +32,4 @@ pub use laws::{
 pub use list::list_formed;
 pub use op::{Op, Operand, copied_operand, copied_view};
 pub use plan::Plan;
-pub use shapes::{inputs, output, walked_shape, weight};
+pub use shapes::{array_view, inputs, output, walked_shape, weight};

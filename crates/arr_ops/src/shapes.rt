@@ -1,9 +1,9 @@
 //! The views and shapes of an operation.
-ghost use Rattle.std.specs.Prelude.{◌≡◌, ◌↔◌, IsTrue, IsNone};
+ghost use Rattle.std.specs.Prelude.{◌≡◌, ◌↔◌, IsTrue, IsNone, Some, true};
 ghost use Rattle.std.specs.Option.{option_map, option_to_list};
 ghost use Rattle.arr_num.specs.Kinds.{kind};
 ghost use Rattle.arr_ops.specs.Ops.{array_of, ends, keeps_bases, walked};
-ghost use Rattle.arr_ops.specs.Formed.{well_formed, with_slot};
+ghost use Rattle.arr_ops.specs.Formed.{is_array, well_formed, with_slot};
 ghost use Rattle.arr_ops.specs.Costs.{weight_of};
 
 use crate::{Op, Operand};
@@ -49,6 +49,18 @@ pub fn inputs(op: &Op) -> (Option<View>, Option<View>)
     ensures second { result.1 ≡ array_of op.now.second }
 {
     (copied(op.first_view()), copied(op.second_view()))
+}
+
+/// The view that an operand is, where it is known to be one (docs/LANGUAGE.md, "Operations").
+pub fn array_view(operand: &Option<Operand>) -> &View
+    requires { is_array operand.now ≡ true }
+    ensures { operand.now ≡ Some (Operand.Array result.now) }
+{
+    match operand {
+        Some(Operand::Array(view)) => view,
+        Some(Operand::Number(_)) => unreachable!(),
+        None => unreachable!(),
+    }
 }
 
 /// An equal view, if there is one.

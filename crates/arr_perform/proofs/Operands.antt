@@ -13,7 +13,6 @@ use Rattle.arr_num.specs.declared.code.Code.TheVariants.{Power, Range, Identity,
 use Rattle.arr_num.specs.Kinds.{Kind, Binary, Unary, Counting, Reduction, Scan, Ending, Printing, kind, binds_two, binds_one, counts, is_binary}
 use Rattle.arr_num.specs.Numbers.{in_type, may_stand_right}
 use Rattle.arr_num.specs.Types.{types_match}
-use Rattle.arr_num.specs.Types as types
 use Rattle.arr_kernel.specs.Inputs.{is_position, takes_left, takes_right}
 use Rattle.arr_view.specs.Strided.{Strided}
 use Rattle.arr_view.specs.Views.{elements}
@@ -162,25 +161,10 @@ first_kept _ op h = both_left (list_all (in_type op.from) (numbers_of op.first))
 
 -- ---- types
 
-same_type : (s t : Elem) → same_elem s t ≡ true → types.same_elem s t ≡ true
-same_type s t h = subst (λ u. types.same_elem s u ≡ true) (same_elem_is s t h) (itself s)
-  where
-    itself : (t : Elem) → types.same_elem t t ≡ true
-    itself U8 = refl
-    itself I32 = refl
-    itself I64 = refl
-    itself U64 = refl
-
 pub types_matched : (code : Code) (op : Op) → types_kept code op ≡ true → types_match code op.to op.from ≡ true
-types_matched Equal op h = same_type op.to U8 h
-types_matched NotEqual op h = same_type op.to U8 h
-types_matched Less op h = same_type op.to U8 h
-types_matched LessEqual op h = same_type op.to U8 h
-types_matched Greater op h = same_type op.to U8 h
-types_matched GreaterEqual op h = same_type op.to U8 h
 types_matched Identity op h = refl
 types_matched Range op h = refl
-types_matched _ op h = same_type op.to op.from h
+types_matched _ op h = h
 
 pub numbers_of_op : (op : Op) → well_formed op ≡ true → numbers_kept op.code op ≡ true
 numbers_of_op op h = both_right (types_kept op.code op) _ (both_right (operands_kept (kind op.code) op) _ (both_left (kind_kept op) _ h))

@@ -18,7 +18,7 @@ use crate::folding::{folded, scanned};
 use crate::lengths::product;
 use crate::moves::{fill_slot, read_view, write_view};
 use arr_num::{Code, Elem};
-use arr_ops::{Op, Operand};
+use arr_ops::{Op, Operand, array_view};
 use arr_store::{Slots, Store};
 use arr_view::View;
 use std::alloc::{AllocError as NoMemory, Global};
@@ -226,18 +226,6 @@ fn put_out(
     Ok(())
 }
 
-/// The view that an operand is.
-fn shown(operand: &Option<Operand>) -> &View
-    requires { is_array operand.now ≡ true }
-    ensures { operand.now ≡ Some (Operand.Array result.now) }
-{
-    match operand {
-        Some(Operand::Array(view)) => view,
-        Some(Operand::Number(_)) => unreachable!(),
-        None => unreachable!(),
-    }
-}
-
 /// The results of an operation that has an output.
 fn computed(alloc: Global, op: &Op, out: &View, store: &mut Store) -> Result<Vec<i128>, NoMemory>
     requires well { well_formed op.now ≡ true }
@@ -258,7 +246,7 @@ fn computed(alloc: Global, op: &Op, out: &View, store: &mut Store) -> Result<Vec
         | Code::MaximumReduce
         | Code::AddAccumulate
         | Code::MultiplyAccumulate => match op.axis {
-            Some(axis) => along_axis(alloc, op, shown(&op.first), axis, store),
+            Some(axis) => along_axis(alloc, op, array_view(&op.first), axis, store),
             None => unreachable!(),
         },
         _ => element_wise(alloc, op, out, store),
@@ -294,7 +282,7 @@ fn show(alloc: Global, op: &Op, store: &mut Store, slots: &mut Slots) -> Result<
     ensures loads { store.old.loads ≤ store.new.loads }
     ensures few_loads { store.new.loads ≤ store.old.loads + 8388608 }
 {
-    let numbers = read_view(alloc, shown(&op.first), store)?;
+    let numbers = read_view(alloc, array_view(&op.first), store)?;
     match op.slot {
         Some(slot) => fill_slot(slot, numbers.as_slice(), slots),
         None => unreachable!(),
