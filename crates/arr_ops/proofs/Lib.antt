@@ -17,3 +17,4 @@ pub mod Merged
 pub mod Fits
 pub mod FitsLaw
 pub mod Serving
+pub mod Gathers
