@@ -1,0 +1,4 @@
+pub mod Bases
+pub mod Numbers
+pub mod Picking
+pub mod Picked
