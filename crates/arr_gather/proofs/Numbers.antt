@@ -29,7 +29,7 @@ places_inside (Some c) t v h = both_right _ _ (both_right (same_elem c.elem t) _
 pub element_inside : (f : ℕ → Option Cell) (t : Elem) (v : Strided) (k : ℕ) → Holds f t v → k < length (elements v) → get_or (elements v) k 0 < size_at (f v.base)
 element_inside f t v k h l = ltb-true _ _ (passes (λ e. nat_lt e (size_at (f v.base))) (elements v) k 0 l (places_inside (f v.base) t v h))
 
-length-read : (c : Option Cell) (ps : List ℕ) → length (read c ps) ≡ length ps
+pub length-read : (c : Option Cell) (ps : List ℕ) → length (read c ps) ≡ length ps
 length-read None ps = length-map ps (λ p. pos 0)
 length-read (Some c) ps = length-map ps (λ p. get_or c.numbers p (pos 0))
 
@@ -74,3 +74,15 @@ read_first (Some c) p ps = refl
 pub read_none : (c : Option Cell) → read c [] ≡ []
 read_none None = refl
 read_none (Some c) = refl
+
+-- the base of a view is there
+pub record Target (c : Option Cell) (t : Elem) : Type 0 where
+  pub numbers : List ℤ
+  pub is : c ≡ Some (record { elem = t; numbers = numbers })
+
+pub target_of : (f : ℕ → Option Cell) (t : Elem) (v : Strided) → Holds f t v → Target (f v.base) t
+target_of f t v h = one (f v.base) h
+  where
+    one : (c : Option Cell) → meets_need c (need t v) ≡ true → Target c t
+    one None e = absurd (false≢true e)
+    one (Some c) e = record { numbers = c.numbers; is = ap (λ u. Some (record { elem = u; numbers = c.numbers })) (same_elem_is c.elem t (both_left (same_elem c.elem t) _ e)) }

@@ -1,4 +1,4 @@
--- A store as a memory, and what private calls say.
+-- A store as a memory, what is loaded, and what filling a base says.
 use Rattle.std.specs.Prelude.{◌≡◌, ◌≢◌, ℕ, ℤ, pos, ◌+◌, ◌*◌, ◌^◌, ◌≤◌, true, List, length, get_or, None, Option, Some}
 use Rattle.arr_num.specs.Numbers.{width}
 use Rattle.arr_num.specs.declared.elem.Elem.{Elem}
@@ -8,12 +8,24 @@ use Rattle.arr_ops.specs.Fits.{meets_need}
 use Rattle.arr_ops.specs.Gathers.{need, picked, position_named}
 use Rattle.arr_ops.specs.Memory.{Cell, Memory, read}
 use Rattle.arr_ops.specs.declared.gather.Gather.{Gather}
+use Rattle.arr_ops.specs.declared.gather.Scatter.{Scatter}
+use Rattle.arr_ops.specs.Costs.{weight_of}
 use Rattle.arr_store.specs.Cells.{assigned, blank}
 use Rattle.arr_store.specs.Stored.{Stored, cells}
 
 -- the memory of a store: its bases, and no slot
 abbrev pub memory_of : Stored → Memory
 memory_of store = record { bases = cells store; slots = λ s. None }
+
+-- ---- how many bytes are loaded at most
+
+abbrev pub gather_loads : Gather → ℕ
+gather_loads op = weight_of op.of op.index + weight_of op.to op.out
+
+abbrev pub scatter_loads : Scatter → ℕ
+scatter_loads op = weight_of op.of op.index + weight_of op.to op.values
+
+-- ---- filling a base
 
 -- the base of a view is there with the type, and every element of the view lies inside it
 abbrev pub Holds : (ℕ → Option Cell) → Elem → Strided → Type 0

@@ -6,7 +6,7 @@ ghost use Rattle.arr_ops.specs.Costs.{weight_of};
 ghost use Rattle.arr_ops.specs.Gathers.{gather_fits, gathered, is_gather};
 ghost use Rattle.arr_store.specs.Cells.{assigned, number_at, size_at, takes, width_at, with_number};
 ghost use Rattle.arr_store.specs.Stored.{cells};
-ghost use Rattle.arr_gather.specs.Steps.{CanPick, Holds, Picks, memory_of, number_named, numbers_at};
+ghost use Rattle.arr_gather.specs.Steps.{CanPick, gather_loads, Holds, Picks, memory_of, number_named, numbers_at};
 
 use crate::position::position_named;
 use arr_ops::Gather;
@@ -24,11 +24,14 @@ fn pick_one(op: &Gather, count: u32, place: u32, position: u32, store: &mut Stor
     requires place { place < size_at (cells store.old op.now.index.base) }
     requires position { position < size_at (cells store.old op.now.out.base) }
     requires takes { (z : ℤ) → takes (cells store.old op.now.out.base) z ≡ in_type op.now.to z }
-    requires loads { store.old.loads + (width_at (cells store.old op.now.index.base) + width_at (cells store.old op.now.source.base)) ≤ 2 ^ 62 }
+    requires loads { store.old.loads
+        + (width_at (cells store.old op.now.index.base) + width_at (cells store.old op.now.source.base)) ≤ 2 ^ 62 }
     requires stores { store.old.stores < 2 ^ 62 }
-    ensures bases { cells store.new ≡ assigned (cells store.old) op.now.out.base (with_number (cells store.old op.now.out.base) position
+    ensures bases { cells store.new ≡ assigned (cells store.old) op.now.out.base
+        (with_number (cells store.old op.now.out.base) position
         (number_named (numbers_at (cells store.old) op.now.source) (number_at (cells store.old op.now.index.base) place))) }
-    ensures loads { store.new.loads ≡ store.old.loads + (width_at (cells store.old op.now.index.base) + width_at (cells store.old op.now.source.base)) }
+    ensures loads { store.new.loads ≡ store.old.loads
+        + (width_at (cells store.old op.now.index.base) + width_at (cells store.old op.now.source.base)) }
     ensures stores { store.new.stores ≡ store.old.stores + width_at (cells store.old op.now.out.base) }
     ensures made { store.new.made ≡ store.old.made }
 {
@@ -59,11 +62,11 @@ fn pick(op: &Gather, store: &mut Store)
 pub fn gather(alloc: Global, op: &Gather, store: &mut Store) -> Result<(), NoMemory>
     requires lawful { is_gather op.now ≡ true }
     requires fitting { gather_fits (memory_of store.old) op.now ≡ true }
-    requires room_loads { store.old.loads + (weight_of op.now.of op.now.index + weight_of op.now.to op.now.out) ≤ 2 ^ 62 }
+    requires room_loads { store.old.loads + gather_loads op.now ≤ 2 ^ 62 }
     requires room_stores { store.old.stores + weight_of op.now.to op.now.out ≤ 2 ^ 62 }
     requires room_made { store.old.made < 2 ^ 62 }
     ensures bases { OnOk result (cells store.new ≡ (gathered (memory_of store.old) op.now).bases) }
-    ensures loads { OnOk result (store.new.loads ≤ store.old.loads + (weight_of op.now.of op.now.index + weight_of op.now.to op.now.out)) }
+    ensures loads { OnOk result (store.new.loads ≤ store.old.loads + gather_loads op.now) }
     ensures stores { OnOk result (store.new.stores ≡ store.old.stores + weight_of op.now.to op.now.out) }
     ensures made { OnOk result (store.new.made ≡ store.old.made + 1) }
     ensures refused { OnErr result (store.new ≡ store.old) }
