@@ -2,7 +2,7 @@ ghost use Rattle.std.specs.Prelude.{◌≡◌, pos, ◌*ℤ◌};
 ghost use Rattle.arr_num.specs.Numbers.{digits, greatest, in_type, least, shift, size, width, wrap};
 
 /// The type of an array's elements (docs/LANGUAGE.md, "Types").
-#[derive(Clone, Copy, Debug, PartialEq, Eq)]
+#[derive(Clone, Copy, Debug)]
 pub enum Elem {
     /// From 0 to 255, in one byte.
     U8,
@@ -100,4 +100,23 @@ impl Elem {
             Elem::I64 | Elem::U64 => 0x1_0000_0000_0000_0000,
         }
     }
+}
+
+impl PartialEq for Elem {
+    ghost use Rattle.arr_num.specs.Types.{same_elem, same_elem_laws};
+    ghost use Rattle.std.specs.Cmp.{partial_equiv_from_equiv};
+
+    ghost eq = { same_elem };
+
+    ghost laws = { partial_equiv_from_equiv same_elem_laws };
+
+    fn eq(&self, other: &Elem) -> bool {
+        *self as u8 == *other as u8
+    }
+}
+
+impl Eq for Elem {
+    ghost use Rattle.arr_num.specs.Types.{same_elem_laws};
+
+    ghost laws = { same_elem_laws };
 }

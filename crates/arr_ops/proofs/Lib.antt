@@ -7,6 +7,7 @@ pub mod Commute
 pub mod Apart
 pub mod Plans
 pub mod Lengths
+pub mod Decided
 pub mod Typed
 pub mod Picked
 pub mod Alike
@@ -18,3 +19,7 @@ pub mod Fits
 pub mod FitsLaw
 pub mod Serving
 pub mod Gathers
+pub mod Members
+pub mod Ordering
+pub mod Legality
+pub mod Orders

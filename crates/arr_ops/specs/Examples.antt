@@ -1,5 +1,5 @@
 -- Worked lists, by computation.
-use Rattle.std.specs.Prelude.{ℕ, ℤ, pos, ◌≡◌, refl, List, [], ◌∷◌, Bool, true, false, Option, Some, None, ◌==◌, cond}
+use Rattle.std.specs.Prelude.{ℕ, pos, ◌≡◌, refl, List, [], ◌∷◌, Bool, true, false, Option, Some, None, ◌==◌, cond}
 use Rattle.arr_num.specs.declared.elem.Elem.TheVariants.{I64}
 use Rattle.arr_num.specs.declared.code.Code.{Code}
 use Rattle.arr_num.specs.declared.code.Code.TheVariants.{Add, Multiply, Identity, Range, AddReduce, Free, Sync}
@@ -10,7 +10,7 @@ use Rattle.arr_ops.specs.declared.op.Op.{Op}
 use Rattle.arr_ops.specs.declared.op.Operand.{Operand}
 use Rattle.arr_ops.specs.declared.op.Operand.TheVariants.{Array, Number}
 use Rattle.arr_ops.specs.Ops.{dep, fusible}
-use Rattle.arr_ops.specs.Memory.{Memory, Cell, Slot, eager, empty, results}
+use Rattle.arr_ops.specs.Memory.{eager, empty, results}
 use Rattle.arr_ops.specs.Formed.{is_formed}
 use Rattle.arr_ops.specs.Fits.{fits}
 use Rattle.arr_ops.specs.Plans.{is_legal}

@@ -3,35 +3,26 @@ use Rattle.std.specs.Prelude.{ℕ, suc, ℤ, ◌==◌, nat_lt, List, [], ◌∷�
 use Rattle.std.specs.List.{list_all, range_with_len}
 use Rattle.std.specs.Option.{option_to_list}
 use Rattle.arr_view.specs.Strided.{Strided}
+pub use Rattle.arr_view.specs.Views.{dropped_axis}
 use Rattle.arr_view.specs.Views.{elements, positions, has, same_lists, is_view, repeats}
-use Rattle.arr_ops.specs.Ops.{views, inputs, outputs, freed, named}
+use Rattle.arr_ops.specs.Ops.{at_slot, views, inputs, outputs, freed, named}
 use Rattle.arr_num.specs.Kinds.{Kind, Binary, Unary, Counting, Reduction, Scan, Ending, Printing, kind}
 use Rattle.arr_num.specs.declared.elem.Elem.{Elem}
-use Rattle.arr_num.specs.declared.elem.Elem.TheVariants.{U8, I32, I64, U64}
+use Rattle.arr_num.specs.declared.elem.Elem.TheVariants.{U64}
 use Rattle.arr_ops.specs.declared.op.Op.{Op}
 use Rattle.arr_ops.specs.declared.op.Operand.{Operand}
 use Rattle.arr_ops.specs.declared.op.Operand.TheVariants.{Array, Number}
 use Rattle.arr_num.specs.declared.code.Code.{Code}
-use Rattle.arr_num.specs.declared.code.Code.TheVariants.{Sync, Identity, Power, Equal, NotEqual, Less, LessEqual, Greater, GreaterEqual}
+use Rattle.arr_num.specs.declared.code.Code.TheVariants.{Sync, Identity, Power, Range}
 use Rattle.arr_num.specs.Numbers.{in_type}
+pub use Rattle.arr_num.specs.Types.{same_elem}
+use Rattle.arr_num.specs.Types.{types_match}
 
 -- ---- one operation
-
-abbrev pub same_elem : Elem → Elem → Bool
-same_elem U8 U8 = true
-same_elem I32 I32 = true
-same_elem I64 I64 = true
-same_elem U64 U64 = true
-same_elem _ _ = false
 
 -- its elements are those of a whole base, in order
 abbrev pub is_whole : Strided → Bool
 is_whole v = same_lists (elements v) (range_with_len 0 (positions v.lengths))
-
--- the shape without its axis, or [1] where that is all it has
-abbrev pub dropped_axis : ℕ → List ℕ → List ℕ
-dropped_axis axis (n ∷ []) = 1 ∷ []
-dropped_axis axis lengths = take axis lengths ++ drop (suc axis) lengths
 
 abbrev pub is_array : Option Operand → Bool
 is_array (Some (Array v)) = true
@@ -63,16 +54,11 @@ operands_kept Scan op = along_axis op (λ axis lengths. lengths)
 operands_kept Ending op = is_some op.frees && (is_none op.out && (is_none op.first && (is_none op.second && (is_none op.axis && (is_none op.slot && not op.makes)))))
 operands_kept Printing op = is_some op.slot && (is_array op.first && (is_none op.out && (is_none op.second && (is_none op.axis && (is_none op.frees && not op.makes)))))
 
--- a comparison gives u8; IDENTITY of a view may change the type; else both types are one
+-- the types are those of the code; RANGE has one, and so has IDENTITY of a constant
 abbrev pub types_kept : Code → Op → Bool
-types_kept Equal op = same_elem op.to U8
-types_kept NotEqual op = same_elem op.to U8
-types_kept Less op = same_elem op.to U8
-types_kept LessEqual op = same_elem op.to U8
-types_kept Greater op = same_elem op.to U8
-types_kept GreaterEqual op = same_elem op.to U8
 types_kept Identity op = is_array op.first || same_elem op.to op.from
-types_kept _ op = same_elem op.to op.from
+types_kept Range op = same_elem op.to op.from
+types_kept code op = types_match code op.to op.from
 
 abbrev pub numbers_of : Option Operand → List ℤ
 numbers_of (Some (Number z)) = z ∷ []
@@ -103,19 +89,7 @@ slot_for Sync slot = Some 1
 slot_for _ slot = slot
 
 abbrev pub with_slot : Op → Op
-with_slot op =
-    record {
-      code = op.code;
-      to = op.to;
-      from = op.from;
-      out = op.out;
-      first = op.first;
-      second = op.second;
-      axis = op.axis;
-      slot = slot_for op.code op.slot;
-      frees = op.frees;
-      makes = op.makes;
-    }
+with_slot op = at_slot op (slot_for op.code op.slot)
 
 -- ---- a list
 

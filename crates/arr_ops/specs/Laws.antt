@@ -3,6 +3,7 @@ use Rattle.std.specs.Prelude.{ℕ, ◌≡◌, ◌≤◌, ◌+◌, List, [], ◌�
 use Rattle.arr_num.specs.declared.elem.Elem.{Elem}
 use Rattle.arr_ops.specs.declared.op.Op.{Op}
 use Rattle.std.specs.List.{list_all}
+use Rattle.std.specs.List.Sorted.{IsPermutation}
 use Rattle.arr_num.specs.Numbers.{in_type}
 use Rattle.arr_view.specs.Strided.{Strided}
 use Rattle.arr_ops.specs.Ops.{dep, inputs}
@@ -10,6 +11,7 @@ use Rattle.arr_ops.specs.Memory.{Memory, Cell, step, eager}
 use Rattle.arr_ops.specs.Formed.{is_formed, same_elem}
 use Rattle.arr_ops.specs.Fits.{fits}
 use Rattle.arr_ops.specs.Plans.{is_legal, eager_blocks, numbered, ops_of}
+use Rattle.arr_ops.specs.Order.{each_fusible, is_orderable, is_partition, ordered}
 use Rattle.arr_ops.specs.Costs.{block_cost}
 
 -- the memory before each block fits the block's operations
@@ -49,3 +51,14 @@ NumbersStayTyped =
 -- one block costs at most what its two parts cost
 abbrev pub MergingSaves : Type 0
 MergingSaves = (list : List Op) (left right : List ℕ) → block_cost list (left ++ right) ≤ block_cost list left + block_cost list right
+
+-- the order of a partition is a legal plan of its blocks
+abbrev pub OrdersAreLegal : Type 0
+OrdersAreLegal =
+    (list : List Op) (blocks plan : List (List ℕ)) → IsTrue (is_partition list blocks) → IsTrue (each_fusible list blocks) → ordered list blocks ≡ Some plan
+    → IsPermutation blocks plan × IsTrue (is_legal list plan)
+
+-- and there is one wherever the blocks, in some order, are a legal plan
+abbrev pub OrdersAreFound : Type 0
+OrdersAreFound =
+    (list : List Op) (blocks plan : List (List ℕ)) → IsPermutation blocks plan → IsTrue (is_legal list plan) → IsTrue (is_partition list blocks && is_orderable list blocks)

@@ -29,6 +29,9 @@ pub record Memory : Type 0 where
 abbrev pub empty : Memory
 empty = record { bases = λ b. None; slots = λ s. None }
 
+abbrev pub without_slots : Memory → Memory
+without_slots m = record { bases = m.bases; slots = λ s. None }
+
 -- ---- values
 
 abbrev pub zip_with : (ℤ → ℤ → ℤ) → List ℤ → List ℤ → List ℤ

@@ -9,13 +9,13 @@ use Rattle.arr_ops.specs.declared.op.Op.{Op}
 use Rattle.arr_ops.specs.declared.op.Operand.{Operand}
 use Rattle.arr_ops.specs.declared.op.Operand.TheVariants.{Array}
 
-abbrev pub view_of : Option Operand → List Strided
-view_of (Some (Array v)) = v ∷ []
-view_of _ = []
-
+-- the view that an operand is
 abbrev pub array_of : Option Operand → Option Strided
 array_of (Some (Array v)) = Some v
 array_of _ = None
+
+abbrev pub view_of : Option Operand → List Strided
+view_of o = option_to_list (array_of o)
 
 abbrev pub outputs : Op → List Strided
 outputs op = option_to_list op.out
@@ -32,6 +32,14 @@ freed op = option_to_list op.frees
 -- the bases that it names
 abbrev pub named : Op → List ℕ
 named op = map (λ (v : Strided). v.base) (views op) ++ freed op
+
+-- the same with this slot, or with none
+abbrev pub at_slot : Op → Option ℕ → Op
+at_slot op slot = record op { slot = slot }
+
+-- it writes a view of the base
+abbrev pub writes_base : Op → ℕ → Bool
+writes_base f b = list_any (λ (o : Strided). o.base == b) (outputs f)
 
 -- some view of the first list and some view of the second pass
 abbrev pub some_pair : (Strided → Strided → Bool) → List Strided → List Strided → Bool
@@ -86,7 +94,7 @@ keeps_bases _ = false
 
 -- f is the creator of the base
 abbrev pub makes_base : Op → ℕ → Bool
-makes_base f b = f.makes && list_any (λ (o : Strided). o.base == b) (outputs f)
+makes_base f b = f.makes && writes_base f b
 
 abbrev pub creates : List Op → ℕ → Bool
 creates list b = list_any (λ f. makes_base f b) list

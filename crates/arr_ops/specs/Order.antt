@@ -1,12 +1,17 @@
--- The order of a partition.
-use Rattle.std.specs.Prelude.{ℕ, zero, suc, nat_lt, ◌==◌, min, List, [], ◌∷◌, ◌||◌, ◌&&◌, Bool, not, cond, length, Option, Some, None, is_some, false}
+-- Partitions, and the order of one.
+use Rattle.std.specs.Prelude.{ℕ, zero, suc, nat_lt, nat_le, ◌≡◌, ◌==◌, ◌⊎◌, min, List, [], ◌∷◌, ◌||◌, ◌&&◌, Bool, not, cond, length, Option, Some, None, is_some, false}
 use Rattle.std.specs.List.{list_any, list_all, filter}
 use Rattle.std.specs.Option.{option_map}
 use Rattle.arr_view.specs.Views.{has}
 use Rattle.arr_ops.specs.declared.op.Op.{Op}
 use Rattle.arr_ops.specs.Ops.{dep, fusible}
 use Rattle.arr_ops.specs.Formed.{all_pairs}
-use Rattle.arr_ops.specs.Plans.{numbered, ops_of}
+use Rattle.arr_ops.specs.Plans.{numbered, holders, not_empty, ops_of}
+
+-- one of a list
+abbrev pub In : {X : Type 0} → X → List X → Type 0
+In x [] = ⊥
+In x (y ∷ ys) = (x ≡ y) ⊎ In x ys
 
 -- some operation of the first block stands before one of the second and the two depend
 abbrev pub leads : List (ℕ × Op) → List ℕ → List ℕ → Bool
@@ -48,6 +53,12 @@ ordered_within (suc n) xs left =
 -- a partition of the list in its order, where it has one
 abbrev pub ordered : List Op → List (List ℕ) → Option (List (List ℕ))
 ordered list blocks = ordered_within (length blocks) (numbered list) blocks
+
+-- no block is empty, and each number of the list stands in one block, no other in any
+abbrev pub is_partition : List Op → List (List ℕ) → Bool
+is_partition list blocks =
+    list_all (λ block. not_empty block && list_all (λ i. nat_lt 0 i && nat_le i (length list)) block) blocks
+    && list_all (λ (x : ℕ × Op). holders blocks x.0 == 1) (numbered list)
 
 -- the operations of each block may share it
 abbrev pub each_fusible : List Op → List (List ℕ) → Bool

@@ -1,11 +1,11 @@
 //! Which operations there are.
 ghost use Rattle.std.specs.Prelude.{◌≡◌, ◌+◌, ◌<◌, ◌&&◌, ◌==◌, not, length, drop, get_or};
 ghost use Rattle.std.specs.List.{list_all};
-ghost use Rattle.std.specs.Option.{option_to_list};
+ghost use Rattle.std.specs.Option.{option_map, option_to_list};
 ghost use Rattle.arr_num.specs.Kinds.{kind};
 ghost use Rattle.arr_num.specs.Numbers.{in_type};
 ghost use Rattle.arr_view.specs.Views.{elements, has, is_view, positions, repeats, same_lists};
-ghost use Rattle.arr_ops.specs.Ops.{inputs, outputs, view_of, views};
+ghost use Rattle.arr_ops.specs.Ops.{inputs, outputs, views};
 ghost use Rattle.arr_ops.specs.Formed.{along_axis, dropped_axis, elementwise, is_array, is_whole, kind_kept, makes_whole, numbers_kept, numbers_of, operands_kept, plain, same_elem, same_shape, types_kept, well_formed, writes_once};
 
 use crate::{Op, Operand};
@@ -67,18 +67,19 @@ fn elementwise(op: &Op) -> bool
         && op.slot.is_none()
         && op.frees.is_none()
         && match &op.out {
-            Some(out) => has_shape(&op.first, out.shape()) && has_shape(&op.second, out.shape()),
+            Some(out) => has_shape(op.first_view(), out.shape())
+                && has_shape(op.second_view(), out.shape()),
             None => false,
         }
 }
 
-/// Whether an operand has the shape, if it is a view.
-fn has_shape(operand: &Option<Operand>, shape: &[u32]) -> bool
-    ensures { result ≡ same_shape shape.now (view_of operand.now) }
+/// Whether a view, if it is there, has the shape.
+fn has_shape(view: Option<&View>, shape: &[u32]) -> bool
+    ensures { result ≡ same_shape shape.now (option_to_list (option_map (λ v. v.now) view.entry)) }
 {
-    match operand {
-        Some(Operand::Array(view)) => same_lists(view.shape(), shape),
-        _ => true,
+    match view {
+        Some(view) => same_lists(view.shape(), shape),
+        None => true,
     }
 }
 
@@ -97,7 +98,7 @@ fn reduces(op: &Op) -> bool
             op.second.is_none()
                 && op.slot.is_none()
                 && op.frees.is_none()
-                && same_elem(op.to, op.from)
+                && op.to == op.from
                 && usize::from(axis) < input.shape().len()
                 && lacks_axis(out.shape(), input.shape(), usize::from(axis))
         }
@@ -114,7 +115,7 @@ fn scans(op: &Op) -> bool
             op.second.is_none()
                 && op.slot.is_none()
                 && op.frees.is_none()
-                && same_elem(op.to, op.from)
+                && op.to == op.from
                 && usize::from(axis) < input.shape().len()
                 && same_lists(out.shape(), input.shape())
         }
@@ -142,12 +143,6 @@ fn same_lists(left: &[u32], right: &[u32]) -> bool
     left == right
 }
 
-pub(crate) fn same_elem(left: Elem, right: Elem) -> bool
-    ensures { result ≡ same_elem left right }
-{
-    left == right
-}
-
 /// Whether the types are those of the code.
 fn types_kept(op: &Op) -> bool
     ensures { result ≡ types_kept op.now.code op.now }
@@ -158,9 +153,9 @@ fn types_kept(op: &Op) -> bool
         | Code::Less
         | Code::LessEqual
         | Code::Greater
-        | Code::GreaterEqual => same_elem(op.to, Elem::U8),
-        Code::Identity => is_array(&op.first) || same_elem(op.to, op.from),
-        _ => same_elem(op.to, op.from),
+        | Code::GreaterEqual => op.to == Elem::U8,
+        Code::Identity => is_array(&op.first) || op.to == op.from,
+        _ => op.to == op.from,
     }
 }
 
@@ -190,31 +185,16 @@ fn holds_number(operand: &Option<Operand>, ty: Elem) -> bool
 fn has_views(op: &Op) -> bool
     ensures { result ≡ list_all is_view (views op.now) }
 {
-    has_output_view(&op.out) && has_view(&op.first) && has_view(&op.second)
+    is_view(op.out_view()) && is_view(op.first_view()) && is_view(op.second_view())
 }
 
-/// Whether the view obeys the rules of views: one of them is that it has a position.
-fn is_view(view: &View) -> bool
-    ensures { result ≡ is_view view.now }
-{
-    view.positions() >= 1
-}
-
-fn has_output_view(view: &Option<View>) -> bool
-    ensures { result ≡ list_all is_view (option_to_list view.now) }
+/// Whether a view, if it is there, obeys the rules of views: one of them is that it has a position.
+fn is_view(view: Option<&View>) -> bool
+    ensures { result ≡ list_all is_view (option_to_list (option_map (λ v. v.now) view.entry)) }
 {
     match view {
-        Some(view) => is_view(view),
+        Some(view) => view.positions() >= 1,
         None => true,
-    }
-}
-
-fn has_view(operand: &Option<Operand>) -> bool
-    ensures { result ≡ list_all is_view (view_of operand.now) }
-{
-    match operand {
-        Some(Operand::Array(view)) => is_view(view),
-        _ => true,
     }
 }
 
@@ -261,19 +241,19 @@ fn makes_whole(op: &Op) -> bool
     !op.makes
         || match &op.out {
             Some(out) => is_whole(out)
-                && avoids(&op.first, out.base())
-                && avoids(&op.second, out.base()),
+                && avoids(op.first_view(), out.base())
+                && avoids(op.second_view(), out.base()),
             None => false,
         }
 }
 
-/// Whether the operand does not name the base.
-fn avoids(operand: &Option<Operand>, base: u32) -> bool
-    ensures { result ≡ list_all (λ v. not (v.base == base)) (view_of operand.now) }
+/// Whether a view, if it is there, is one of another base.
+fn avoids(view: Option<&View>, base: u32) -> bool
+    ensures { result ≡ list_all (λ v. not (v.base == base)) (option_to_list (option_map (λ v. v.now) view.entry)) }
 {
-    match operand {
-        Some(Operand::Array(view)) => view.base() != base,
-        _ => true,
+    match view {
+        Some(view) => view.base() != base,
+        None => true,
     }
 }
 
@@ -281,10 +261,5 @@ fn avoids(operand: &Option<Operand>, base: u32) -> bool
 fn is_whole(view: &View) -> bool
     ensures { result ≡ is_whole view.now }
 {
-    for position in 0..view.positions() {
-        if view.element(position) != position {
-            return false;
-        }
-    }
-    true
+    view.start() == 0 && view.is_gapless()
 }

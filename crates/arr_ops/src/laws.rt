@@ -1,5 +1,5 @@
 //! Laws of formed lists. Each function does nothing: its contract is the law.
-ghost use Rattle.arr_ops.specs.Laws.{BlocksFit, IndependentCommute, MergingSaves, NumbersStayTyped, PlansKeepMemory};
+ghost use Rattle.arr_ops.specs.Laws.{BlocksFit, IndependentCommute, MergingSaves, NumbersStayTyped, OrdersAreFound, OrdersAreLegal, PlansKeepMemory};
 
 /// Every legal plan of a formed list, block after block in list order, leaves what the list leaves
 /// (docs/PLANS.md, "Legal plans").
@@ -28,4 +28,14 @@ pub fn merging_saves()
 /// its type, numbers of that type and every element that they name, and what they create or print into is not there (docs/PLANS.md, "Legal plans").
 pub fn blocks_fit()
     ensures { BlocksFit }
+{}
+
+/// The order of a partition, where its blocks are fusible each in itself, is a legal plan of the same blocks (docs/PLANS.md, "The order of a partition").
+pub fn orders_are_legal()
+    ensures { OrdersAreLegal }
+{}
+
+/// Where the blocks of a legal plan stand in any other order, they are a partition that has an order (docs/PLANS.md, "The order of a partition").
+pub fn orders_are_found()
+    ensures { OrdersAreFound }
 {}

@@ -1,13 +1,12 @@
 //! Which lists of operations there are.
-ghost use Rattle.std.specs.Prelude.{◌≡◌, ◌==◌, ◌||◌, map, not, nat_lt};
+ghost use Rattle.std.specs.Prelude.{◌≡◌, ◌==◌, ◌||◌, not, nat_lt};
 ghost use Rattle.std.specs.List.{list_all};
-ghost use Rattle.std.specs.Option.{option_to_list};
+ghost use Rattle.std.specs.Option.{option_map, option_to_list};
 ghost use Rattle.arr_view.specs.Views.{elements, has, positions};
-ghost use Rattle.arr_ops.specs.Ops.{named, view_of};
+ghost use Rattle.arr_ops.specs.Ops.{named};
 ghost use Rattle.arr_ops.specs.Formed.{all_pairs, each_inside, each_typed, inside_made, is_formed, may_precede, same_elem, same_types, slots_ascend, typed, well_formed};
 
-use crate::formed::same_elem;
-use crate::{Op, Operand, well_formed};
+use crate::{Op, well_formed};
 use arr_num::Elem;
 use arr_view::View;
 
@@ -61,48 +60,29 @@ fn inside_made(maker: &Op, op: &Op) -> bool
 {
     !maker.makes
         || match &maker.out {
-            Some(base) => out_inside(&op.out, base)
-                && operand_inside(&op.first, base)
-                && operand_inside(&op.second, base),
+            Some(base) => lies_inside(op.out_view(), base)
+                && lies_inside(op.first_view(), base)
+                && lies_inside(op.second_view(), base),
             None => true,
         }
 }
 
-fn out_inside(view: &Option<View>, base: &View) -> bool
-    ensures { result ≡ list_all (λ v. not (base.now.base == v.base) || list_all (λ e. nat_lt e (positions base.now.lengths)) (elements v)) (option_to_list view.now) }
+/// Whether a view, if it is there, is one of another base, or has its elements below the positions of this whole one.
+fn lies_inside(view: Option<&View>, base: &View) -> bool
+    ensures { result ≡ list_all (λ v. not (base.now.base == v.base) || list_all (λ e. nat_lt e (positions base.now.lengths)) (elements v)) (option_to_list (option_map (λ v. v.now) view.entry)) }
 {
     match view {
-        Some(view) => lies_inside(view, base),
+        Some(view) => base.base() != view.base() || lies_below(view, base.positions()),
         None => true,
     }
-}
-
-fn operand_inside(operand: &Option<Operand>, base: &View) -> bool
-    ensures { result ≡ list_all (λ v. not (base.now.base == v.base) || list_all (λ e. nat_lt e (positions base.now.lengths)) (elements v)) (view_of operand.now) }
-{
-    match operand {
-        Some(Operand::Array(view)) => lies_inside(view, base),
-        _ => true,
-    }
-}
-
-/// Whether a view is one of another base, or has its elements below the positions of this whole one.
-fn lies_inside(view: &View, base: &View) -> bool
-    ensures { result ≡ (not (base.now.base == view.now.base) || list_all (λ e. nat_lt e (positions base.now.lengths)) (elements view.now)) }
-{
-    base.base() != view.base() || lies_below(view, base.positions())
 }
 
 /// Whether every element lies below the end.
 fn lies_below(view: &View, end: u32) -> bool
     ensures { result ≡ list_all (λ e. nat_lt e end) (elements view.now) }
 {
-    for position in 0..view.positions() {
-        if view.element(position) >= end {
-            return false;
-        }
-    }
-    true
+    let (_least, greatest) = view.ends();
+    greatest < end
 }
 
 /// Whether each base has one type.
@@ -122,27 +102,18 @@ fn all_typed_as(left: &Op, ops: &[Op]) -> bool
 fn same_types(left: &Op, right: &Op) -> bool
     ensures { result ≡ same_types left.now right.now }
 {
-    out_agrees(&left.out, left.to, right)
-        && operand_agrees(&left.first, left.from, right)
-        && operand_agrees(&left.second, left.from, right)
+    view_agrees(left.out_view(), left.to, right)
+        && view_agrees(left.first_view(), left.from, right)
+        && view_agrees(left.second_view(), left.from, right)
         && freed_agrees(left.frees, left.to, right)
 }
 
-fn out_agrees(view: &Option<View>, ty: Elem, op: &Op) -> bool
-    ensures { result ≡ list_all (λ v. list_all (λ q. not (v.base == q.0) || same_elem ty q.1) (typed op.now)) (option_to_list view.now) }
+fn view_agrees(view: Option<&View>, ty: Elem, op: &Op) -> bool
+    ensures { result ≡ list_all (λ v. list_all (λ q. not (v.base == q.0) || same_elem ty q.1) (typed op.now)) (option_to_list (option_map (λ v. v.now) view.entry)) }
 {
     match view {
         Some(view) => agrees(view.base(), ty, op),
         None => true,
-    }
-}
-
-fn operand_agrees(operand: &Option<Operand>, ty: Elem, op: &Op) -> bool
-    ensures { result ≡ list_all (λ v. list_all (λ q. not (v.base == q.0) || same_elem ty q.1) (typed op.now)) (view_of operand.now) }
-{
-    match operand {
-        Some(Operand::Array(view)) => agrees(view.base(), ty, op),
-        _ => true,
     }
 }
 
@@ -159,27 +130,19 @@ fn freed_agrees(frees: Option<u32>, ty: Elem, op: &Op) -> bool
 fn agrees(base: u32, ty: Elem, op: &Op) -> bool
     ensures { result ≡ list_all (λ q. not (base == q.0) || same_elem ty q.1) (typed op.now) }
 {
-    out_typed(&op.out, base, same_elem(ty, op.to))
-        && operand_typed(&op.first, base, same_elem(ty, op.from))
-        && operand_typed(&op.second, base, same_elem(ty, op.from))
-        && (op.frees != Some(base) || same_elem(ty, op.to))
+    avoids_or(op.out_view(), base, ty == op.to)
+        && avoids_or(op.first_view(), base, ty == op.from)
+        && avoids_or(op.second_view(), base, ty == op.from)
+        && (op.frees != Some(base) || ty == op.to)
 }
 
-fn out_typed(view: &Option<View>, base: u32, same: bool) -> bool
-    ensures { result ≡ list_all (λ v. not (base == v.base) || same) (option_to_list view.now) }
+/// Whether a view, if it is there, is one of another base, or else the types are the same.
+fn avoids_or(view: Option<&View>, base: u32, same: bool) -> bool
+    ensures { result ≡ list_all (λ v. not (base == v.base) || same) (option_to_list (option_map (λ v. v.now) view.entry)) }
 {
     match view {
         Some(view) => base != view.base() || same,
         None => true,
-    }
-}
-
-fn operand_typed(operand: &Option<Operand>, base: u32, same: bool) -> bool
-    ensures { result ≡ list_all (λ v. not (base == v.base) || same) (view_of operand.now) }
-{
-    match operand {
-        Some(Operand::Array(view)) => base != view.base() || same,
-        _ => true,
     }
 }
 
@@ -207,7 +170,7 @@ fn may_precede(op: &Op, later: &Op) -> bool
 {
     makes_unnamed(op, later)
         && match op.frees {
-            Some(base) => !names(later, base),
+            Some(base) => !later.names(base),
             None => true,
         }
 }
@@ -217,35 +180,7 @@ fn makes_unnamed(op: &Op, later: &Op) -> bool
 {
     !later.makes
         || match &later.out {
-            Some(made) => !names(op, made.base()),
+            Some(made) => !op.names(made.base()),
             None => true,
         }
-}
-
-/// Whether the operation names the base.
-fn names(op: &Op, base: u32) -> bool
-    ensures { result ≡ has (named op.now) base }
-{
-    is_of(&op.out, base)
-        || reads_base(&op.first, base)
-        || reads_base(&op.second, base)
-        || op.frees == Some(base)
-}
-
-fn is_of(view: &Option<View>, base: u32) -> bool
-    ensures { result ≡ has (map (λ v. v.base) (option_to_list view.now)) base }
-{
-    match view {
-        Some(view) => base == view.base(),
-        None => false,
-    }
-}
-
-fn reads_base(operand: &Option<Operand>, base: u32) -> bool
-    ensures { result ≡ has (map (λ v. v.base) (view_of operand.now)) base }
-{
-    match operand {
-        Some(Operand::Array(view)) => base == view.base(),
-        _ => false,
-    }
 }

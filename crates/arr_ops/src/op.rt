@@ -1,5 +1,7 @@
 //! One operation on views of bases.
-ghost use Rattle.std.specs.Prelude.{◌≡◌};
+ghost use Rattle.std.specs.Prelude.{◌≡◌, Some, map};
+ghost use Rattle.std.specs.Option.{option_map, option_to_list};
+ghost use Rattle.arr_view.specs.Views.{has};
 
 use arr_num::{Code, Elem};
 use arr_view::View;
@@ -39,6 +41,18 @@ pub struct Op {
 }
 
 impl Operand {
+    ghost use Rattle.arr_ops.specs.Ops.{array_of};
+
+    /// The view that it is; `None` for a constant (docs/LANGUAGE.md, "Operations").
+    pub fn view(&self) -> Option<&View>
+        ensures { option_map (λ v. v.now) result ≡ array_of (Some self.now) }
+    {
+        match self {
+            Operand::Array(view) => Some(view),
+            Operand::Number(_) => None,
+        }
+    }
+
     /// An equal operand (docs/MAP.md, "Copies").
     pub fn copied(&self) -> Operand
         ensures { result ≡ self.now }
@@ -51,6 +65,55 @@ impl Operand {
 }
 
 impl Op {
+    ghost use Rattle.arr_ops.specs.Ops.{array_of, named, writes_base};
+
+    /// The view that it writes; `None` where it writes none (docs/LANGUAGE.md, "Operations").
+    pub fn out_view(&self) -> Option<&View>
+        ensures { option_map (λ v. v.now) result ≡ self.now.out }
+    {
+        self.out.as_ref()
+    }
+
+    /// The view that its first operand is; `None` for a constant and where there is no operand (docs/LANGUAGE.md, "Operations").
+    pub fn first_view(&self) -> Option<&View>
+        ensures { option_map (λ v. v.now) result ≡ array_of self.now.first }
+    {
+        match &self.first {
+            Some(operand) => operand.view(),
+            None => None,
+        }
+    }
+
+    /// The view that its second operand is; `None` for a constant and where there is no operand (docs/LANGUAGE.md, "Operations").
+    pub fn second_view(&self) -> Option<&View>
+        ensures { option_map (λ v. v.now) result ≡ array_of self.now.second }
+    {
+        match &self.second {
+            Some(operand) => operand.view(),
+            None => None,
+        }
+    }
+
+    /// Whether it names the base: by a view or by ending it (docs/LANGUAGE.md, "Operations").
+    pub fn names(&self, base: u32) -> bool
+        ensures { result ≡ has (named self.now) base }
+    {
+        is_of(self.out_view(), base)
+            || is_of(self.first_view(), base)
+            || is_of(self.second_view(), base)
+            || self.frees == Some(base)
+    }
+
+    /// Whether it writes a view of the base (docs/LANGUAGE.md, "Operations").
+    pub fn writes(&self, base: u32) -> bool
+        ensures { result ≡ writes_base self.now base }
+    {
+        match &self.out {
+            Some(out) => out.base() == base,
+            None => false,
+        }
+    }
+
     /// An equal operation (docs/MAP.md, "Copies").
     pub fn copied(&self) -> Op
         ensures { result ≡ self.now }
@@ -70,7 +133,18 @@ impl Op {
     }
 }
 
-pub(crate) fn copied_view(view: &Option<View>) -> Option<View>
+/// Whether a view, if it is there, is one of the base.
+fn is_of(view: Option<&View>, base: u32) -> bool
+    ensures { result ≡ has (map (λ v. v.now.base) (option_to_list view.entry)) base }
+{
+    match view {
+        Some(view) => base == view.base(),
+        None => false,
+    }
+}
+
+/// An equal view, if there is one (docs/MAP.md, "Copies").
+pub fn copied_view(view: &Option<View>) -> Option<View>
     ensures { result ≡ view.now }
 {
     match view {
@@ -79,7 +153,8 @@ pub(crate) fn copied_view(view: &Option<View>) -> Option<View>
     }
 }
 
-fn copied_operand(operand: &Option<Operand>) -> Option<Operand>
+/// An equal operand, if there is one (docs/MAP.md, "Copies").
+pub fn copied_operand(operand: &Option<Operand>) -> Option<Operand>
     ensures { result ≡ operand.now }
 {
     match operand {

@@ -1,12 +1,11 @@
 //! The views and shapes of an operation.
 ghost use Rattle.std.specs.Prelude.{◌≡◌, ◌↔◌, IsTrue, IsNone};
-ghost use Rattle.std.specs.Option.{option_to_list};
+ghost use Rattle.std.specs.Option.{option_map, option_to_list};
 ghost use Rattle.arr_num.specs.Kinds.{kind};
 ghost use Rattle.arr_ops.specs.Ops.{array_of, ends, keeps_bases, walked};
 ghost use Rattle.arr_ops.specs.Formed.{well_formed, with_slot};
 ghost use Rattle.arr_ops.specs.Costs.{weight_of};
 
-use crate::op::copied_view;
 use crate::{Op, Operand};
 use arr_num::{Code, Elem};
 use arr_view::{Shape, View};
@@ -41,7 +40,7 @@ pub fn output(op: &Op) -> Option<View>
     ensures view { result ≡ op.now.out }
     ensures none { IsNone result ↔ IsTrue (keeps_bases (kind op.now.code)) }
 {
-    copied_view(&op.out)
+    copied(op.out_view())
 }
 
 /// The views among the two operands, each in its operand's place (docs/LANGUAGE.md, "Operations").
@@ -49,15 +48,16 @@ pub fn inputs(op: &Op) -> (Option<View>, Option<View>)
     ensures first { result.0 ≡ array_of op.now.first }
     ensures second { result.1 ≡ array_of op.now.second }
 {
-    (array(&op.first), array(&op.second))
+    (copied(op.first_view()), copied(op.second_view()))
 }
 
-fn array(operand: &Option<Operand>) -> Option<View>
-    ensures { result ≡ array_of operand.now }
+/// An equal view, if there is one.
+fn copied(view: Option<&View>) -> Option<View>
+    ensures { result ≡ option_map (λ v. v.now) view.entry }
 {
-    match operand {
-        Some(Operand::Array(view)) => Some(view.copied()),
-        _ => None,
+    match view {
+        Some(view) => Some(view.copied()),
+        None => None,
     }
 }
 

@@ -1,8 +1,8 @@
 -- The elements of a slice are those of the view at the indices that it takes.
-use Rattle.std.proofs.Common.{◌≡◌, ℕ, zero, suc, ◌+◌, ◌-◌, ◌*◌, ◌<◌, ◌≤◌, ℤ, pos, negsuc, ◌+ℤ◌, ◌*ℤ◌, List, [], ◌∷◌, Bool, true, false, cond, ◌||◌, length, get_or, map, refl, ap, ap₂, sym, ◌∙◌, subst, arith}
+use Rattle.std.proofs.Common.{◌≡◌, ℕ, zero, suc, ◌+◌, ◌-◌, ◌*◌, ◌<◌, ◌≤◌, ℤ, pos, negsuc, ◌+ℤ◌, ◌*ℤ◌, List, [], ◌∷◌, Bool, true, false, cond, ◌||◌, length, get_or, refl, ap, ap₂, sym, ◌∙◌, subst, arith}
 use Rattle.std.specs.Prelude.{nat_le, nat_lt, ◌==◌, Option, unwrap_or, Result, Ok, Err}
 use Rattle.std.specs.List.{range_with_len, list_all}
-use Rattle.std.proofs.Math.IntN.{zero-*ℤ, pos-*ℤ-pos, pos-*ℤ-negsuc}
+use Rattle.std.proofs.Math.IntN.{pos-*ℤ-pos, pos-*ℤ-negsuc}
 use Rattle.std.proofs.Common.{neg_ℤ}
 use Rattle.std.proofs.lemmas.Int.{ints}
 use Rattle.std.proofs.lemmas.Bool.{and_parts, ltb-true, leb-true, ne_eqb, cond-false}
@@ -15,7 +15,7 @@ use Rattle.arr_shape.specs.declared.bounds.Slice.{Slice}
 use Rattle.arr_shape.specs.declared.fault.ShapeFault.{ShapeFault}
 use Rattle.arr_shape.specs.declared.fault.ShapeFault.TheVariants.{SliceRange}
 use Rattle.arr_shape.specs.Views.{place_at, element_at, is_index}
-use Rattle.arr_shape.specs.Slices.{rising, falling, cut_of, cut_by, cut, cut_up, cut_down, floor_of, lies_above, whole_cut, and_then, all_cuts, scaled, cut_view, taken_by, taken, picked, AreCuts}
+use Rattle.arr_shape.specs.Slices.{rising, falling, cut_of, cut_by, cut, floor_of, lies_above, whole_cut, and_then, all_cuts, scaled, cut_view, taken_by, taken, picked, AreCuts}
 use Rattle.arr_shape.proofs.Indexes.{shifted}
 use Rattle.arr_shape.proofs.Wholes.{whole_spot}
 use Rattle.arr_shape.proofs.CutViews.{add_times, times_times, firsts, counts, place_is, begins}

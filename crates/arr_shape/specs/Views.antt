@@ -1,8 +1,9 @@
 -- What becomes of views.
 use Rattle.std.specs.Prelude.{ℕ, ℤ, pos, ◌+ℤ◌, ◌*ℤ◌, ◌-◌, List, [], ◌∷◌, ◌++◌, Bool, true, false, ◌||◌, ◌&&◌, ◌==◌, not, nat_lt, nat_le, if◌then◌else◌, cond, length, drop, replicate, reverse, unsigned_abs, Option, Some, None, Result, Ok, Err}
-use Rattle.std.specs.List.{range_with_len, list_all}
+use Rattle.std.specs.List.{list_all}
 use Rattle.arr_view.specs.Strided.{Strided}
-use Rattle.arr_view.specs.Views.{elements, places, positions, is_place, to_place, same_lists, whole_strides, kept_strides}
+use Rattle.arr_view.specs.Views.{places, positions, most_elements, is_place, to_place, whole_strides, kept_strides}
+pub use Rattle.arr_view.specs.Views.{is_consecutive}
 use Rattle.arr_shape.specs.Shapes.{padded}
 use Rattle.arr_shape.specs.declared.fault.ShapeFault.{ShapeFault}
 use Rattle.arr_shape.specs.declared.fault.ShapeFault.TheVariants.{ShapeMismatch, RankRange, NotContiguous, CountMismatch, OutsideBase}
@@ -64,10 +65,6 @@ transpose v = record { base = v.base; start = v.start; lengths = reverse v.lengt
 
 -- ---- reshaping
 
--- its elements are consecutive and rising, in row-major order
-abbrev pub is_consecutive : Strided → Bool
-is_consecutive v = same_lists (elements v) (range_with_len v.start (positions v.lengths))
-
 -- the same elements in another shape
 abbrev pub reshape : Strided → List ℕ → Result Strided ShapeFault
 reshape v shape =
@@ -90,7 +87,7 @@ strided base count start shape strides =
 
 -- a stride that can lead from one element of a base to another
 abbrev pub is_narrow : ℤ → Bool
-is_narrow s = nat_lt (unsigned_abs s) 1048576
+is_narrow s = nat_lt (unsigned_abs s) most_elements
 
 -- the stride that a view keeps, where it is narrow
 abbrev pub narrow : ℕ → ℤ → Option ℤ

@@ -5,11 +5,11 @@ ghost use Rattle.arr_view.specs.Views.{positions};
 ghost use Rattle.arr_shape.specs.Shapes.{is_shape, checked_shape, checked_axis, reduced, broadcast};
 
 use crate::ShapeFault;
-use arr_view::Shape;
+use arr_view::{MOST_ELEMENTS, Shape};
 use arrayvec::ArrayVec;
 
 /// A shape has at most this many positions.
-const MOST: u64 = 1_048_576;
+const MOST: u64 = MOST_ELEMENTS as u64;
 
 /// The shape of these lengths. Refusals, in this order: `RankRange` where there are not one to four lengths, `EmptyArray` where a
 /// length is 0, `TooManyElements` where there are more than 1,048,576 positions.
@@ -52,16 +52,8 @@ pub fn reduced(shape: &[u32], axis: u64) -> Result<Shape, ShapeFault>
     requires { IsTrue (is_shape shape.now) }
     ensures { result ≡ reduced shape.now axis }
 {
-    let axis = usize::from(checked_axis(shape, axis)?);
-    if shape.len() == 1 {
-        return Shape::new(&[1]).ok_or(ShapeFault::RankRange);
-    }
-    let mut lengths = ArrayVec::<u32, 4>::new();
-    for length in shape {
-        lengths.push(*length);
-    }
-    lengths.remove(axis);
-    Shape::new(lengths.as_slice()).ok_or(ShapeFault::RankRange)
+    let axis = checked_axis(shape, axis)?;
+    Ok(Shape::without_axis(shape, usize::from(axis)))
 }
 
 /// The entry at an axis of a list that stands for so many dimensions, the last of them its own; the others have the entry `absent`.

@@ -1,20 +1,20 @@
 //! Slices of views.
-ghost use Rattle.std.specs.Prelude.{◌≡◌, ◌+◌, ◌-◌, ◌<◌, ◌≤◌, ◌/◌, ◌*ℤ◌, ◌≤ℤ◌, ◌==◌, nat_le, true, Ok, Err, pos, negsuc, cond, unsigned_abs, IfOk, IsTrue, List, ℕ, length, Option, Some, None, suc};
+ghost use Rattle.std.specs.Prelude.{◌≡◌, ◌+◌, ◌-◌, ◌<◌, ◌≤◌, ◌/◌, ◌≤ℤ◌, ◌==◌, nat_le, true, Ok, Err, pos, negsuc, cond, unsigned_abs, IfOk, IsTrue, List, ℕ, length, Option, Some, None, suc};
 ghost use Rattle.std.specs.List.{list_all};
 ghost use Rattle.std.specs.Result.{result_map_both};
-ghost use Rattle.arr_view.specs.Views.{positions};
+ghost use Rattle.arr_view.specs.Views.{most_elements, positions};
 ghost use Rattle.arr_shape.specs.Slices.{cut, cut_up, cut_down, whole_cut, all_cuts, cut_view, IsCut, AreCuts, taken, picked, slice};
 ghost use Rattle.arr_shape.specs.Views.{element_at, is_index};
 ghost use Rattle.arr_view.specs.Strided.{Strided};
 
 use crate::ShapeFault;
 use crate::bounds::{Cut, Slice};
-use arr_view::View;
+use arr_view::{View, offset};
 use arrayvec::ArrayVec;
 
 /// The cut of which the indices lie at most `span` from the first.
 fn stepping(first: u32, span: u32, step: i128) -> Cut
-    requires span { span < 1048576 }
+    requires span { span < most_elements }
     requires step { 1 ≤ unsigned_abs step }
     ensures first { result.first ≡ first }
     ensures count { result.count ≡ span / unsigned_abs step + 1 }
@@ -38,7 +38,7 @@ fn stepping(first: u32, span: u32, step: i128) -> Cut
 /// The cut of a slice with a step above 0.
 fn rising(length: u64, slice: &Slice) -> Result<Cut, ShapeFault>
     requires some { 1 ≤ length }
-    requires few { length ≤ 1048576 }
+    requires few { length ≤ most_elements }
     requires up { pos 1 ≤ℤ slice.now.step }
     ensures cut { result ≡ cut_up length slice.now.start slice.now.stop (unsigned_abs slice.now.step) }
     ensures lawful { IfOk result (IsCut length) }
@@ -57,7 +57,7 @@ fn rising(length: u64, slice: &Slice) -> Result<Cut, ShapeFault>
 /// The cut of a slice with a step below 0.
 fn falling(length: u64, slice: &Slice) -> Result<Cut, ShapeFault>
     requires some { 1 ≤ length }
-    requires few { length ≤ 1048576 }
+    requires few { length ≤ most_elements }
     requires down { slice.now.step ≤ℤ negsuc 0 }
     ensures cut { result ≡ cut_down length slice.now.start slice.now.stop (unsigned_abs slice.now.step - 1) }
     ensures lawful { IfOk result (IsCut length) }
@@ -81,7 +81,7 @@ fn falling(length: u64, slice: &Slice) -> Result<Cut, ShapeFault>
 /// What a slice takes of a dimension. Refusals, in this order: `ZeroStep`, `SliceRange`, `EmptyArray`.
 fn cut(length: u32, slice: &Slice) -> Result<Cut, ShapeFault>
     requires some { 1 ≤ length }
-    requires few { length ≤ 1048576 }
+    requires few { length ≤ most_elements }
     ensures cut { result ≡ cut length slice.now }
     ensures lawful { IfOk result (IsCut length) }
 {
@@ -99,7 +99,7 @@ fn cut(length: u32, slice: &Slice) -> Result<Cut, ShapeFault>
 fn all_cuts(lengths: &[u32], slices: &[Slice]) -> Result<ArrayVec<Cut, 4>, ShapeFault>
     requires rank { length lengths.now ≤ 4 }
     requires some { list_all (nat_le 1) lengths.now ≡ true }
-    requires few { positions lengths.now ≤ 1048576 }
+    requires few { positions lengths.now ≤ most_elements }
     ensures cuts { result_map_both (λ cuts. cuts.items) (λ e. e) result ≡ all_cuts lengths.now slices.now }
     ensures lawful { IfOk result (λ cuts. AreCuts lengths.now cuts.items) }
 {
@@ -116,14 +116,6 @@ fn all_cuts(lengths: &[u32], slices: &[Slice]) -> Result<ArrayVec<Cut, 4>, Shape
         }
     }
     Ok(cuts)
-}
-
-/// How far some steps of a stride lead, in elements.
-fn offset(steps: u32, stride: i32) -> i64
-    ensures value { result ≡ pos steps *ℤ stride }
-    ensures size { unsigned_abs result ≤ 9223372034707292160 }
-{
-    i64::from(steps) * i64::from(stride)
 }
 
 /// The view of the indices that the cuts take.

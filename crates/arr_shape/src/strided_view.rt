@@ -7,11 +7,8 @@ ghost use Rattle.arr_shape.specs.Shapes.{is_shape};
 ghost use Rattle.arr_shape.specs.Views.{narrow, narrowed, strided};
 
 use crate::ShapeFault;
-use arr_view::{View, Walk};
+use arr_view::{MOST_ELEMENTS, View};
 use arrayvec::ArrayVec;
-
-/// A base has at most this many elements.
-const MOST: u32 = 1_048_576;
 
 /// The stride that a view keeps: 0 for a dimension of length 1. `None` where it leads past every base.
 fn narrow(length: u32, stride: i128) -> Option<i32>
@@ -20,7 +17,7 @@ fn narrow(length: u32, stride: i128) -> Option<i32>
     if length == 1 {
         return Some(0);
     }
-    if stride.unsigned_abs() >= u128::from(MOST) {
+    if stride.unsigned_abs() >= u128::from(MOST_ELEMENTS) {
         return None;
     }
     Some(stride as i32)
@@ -39,16 +36,12 @@ fn narrowed(shape: &[u32], strides: &[i128]) -> Option<ArrayVec<i32, 4>>
     Some(kept)
 }
 
-/// Whether every element lies below a number.
+/// Whether every element lies below a number: the greatest decides.
 fn lies_below(view: &View, count: u32) -> bool
     ensures { result ≡ list_all (λ element. nat_lt element count) (elements view.now) }
 {
-    for element in Walk::new(view) {
-        if element >= count {
-            return false;
-        }
-    }
-    true
+    let (_, greatest) = view.ends();
+    greatest < count
 }
 
 /// The view of a base of `length` elements that starts at an element, counted from 0, and has these lengths and strides, in
@@ -69,7 +62,7 @@ pub fn strided(
     if strides.len() != shape.len() {
         return Err(ShapeFault::RankRange);
     }
-    if start >= u64::from(MOST) {
+    if start >= u64::from(MOST_ELEMENTS) {
         return Err(ShapeFault::OutsideBase);
     }
     let kept = narrowed(shape, strides).ok_or(ShapeFault::OutsideBase)?;

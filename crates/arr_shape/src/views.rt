@@ -1,7 +1,7 @@
 //! Views that are spread, turned round or reshaped.
 ghost use Rattle.std.specs.Prelude.{◌≡◌, ◌≤◌, IfOk, IsTrue, List, ℕ, length, reverse};
 ghost use Rattle.arr_shape.specs.Shapes.{is_shape};
-ghost use Rattle.arr_shape.specs.Views.{element_at, is_index, spread_from, spread, transpose, is_consecutive, reshape};
+ghost use Rattle.arr_shape.specs.Views.{element_at, is_index, spread_from, spread, transpose, reshape};
 ghost use Rattle.arr_view.specs.Strided.{Strided};
 ghost use Rattle.arr_view.specs.Views.{elements};
 
@@ -63,19 +63,6 @@ pub fn transpose(view: &View) -> View
     .unwrap()
 }
 
-/// Whether the elements are consecutive and rising.
-fn is_consecutive(view: &View) -> bool
-    ensures { result ≡ is_consecutive view.now }
-{
-    let start = view.start();
-    for position in 0..view.positions() {
-        if view.element(position) != start + position {
-            return false;
-        }
-    }
-    true
-}
-
 /// The same elements in another shape. Refusals, in this order: `CountMismatch` exactly where the shape has another number of
 /// positions than the view, `NotContiguous` exactly where the view's elements are not consecutive and rising in row-major order.
 pub fn reshape(view: &View, shape: &[u32]) -> Result<View, ShapeFault>
@@ -87,7 +74,7 @@ pub fn reshape(view: &View, shape: &[u32]) -> Result<View, ShapeFault>
     if whole.positions() != view.positions() {
         return Err(ShapeFault::CountMismatch);
     }
-    if !is_consecutive(view) {
+    if !view.is_gapless() {
         return Err(ShapeFault::NotContiguous);
     }
     View::new(view.base(), view.start(), shape, whole.strides()).ok_or(ShapeFault::NotContiguous)

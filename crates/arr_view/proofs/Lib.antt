@@ -3,4 +3,7 @@ pub mod Counting
 pub mod Strides
 pub mod Spots
 pub mod Checks
+pub mod Known
+pub mod Ends
+pub mod Gapless
 pub mod Walking

@@ -71,7 +71,7 @@ whole_steps f p h (suc n) k =
     ap₂ (λ xs ys. xs ++ ys) (h k) (whole_steps f p h n (k + p)) ∙ sym (map-append pos (range_with_len k p) (range_with_len (k + p) (n * p)))
     ∙ ap (map pos) (sym (range-append k p (n * p))) ∙ ap (λ m. map pos (range_with_len k m)) (let e : p + n * p ≡ suc n * p = omega arith in e)
 
-whole_places : (ns : List ℕ) (k : ℕ) → places ns (whole_strides ns) (pos k) ≡ map pos (range_with_len k (positions ns))
+pub whole_places : (ns : List ℕ) (k : ℕ) → places ns (whole_strides ns) (pos k) ≡ map pos (range_with_len k (positions ns))
 whole_places [] k = refl
 whole_places (n ∷ ns) k =
     elim (n == 1) as (λ b. (n == 1) ≡ b → at_steps (places ns (whole_strides ns)) n (cond b (pos 0) (pos (positions ns))) (pos k) ≡ map pos (range_with_len k (n * positions ns))) [

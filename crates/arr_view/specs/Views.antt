@@ -1,6 +1,6 @@
 -- What a view stands for, when two views meet, and which views there are.
-use Rattle.std.specs.Prelude.{ℕ, zero, suc, ℤ, pos, negsuc, ◌+ℤ◌, ◌*◌, List, [], ◌∷◌, ◌++◌, Bool, true, false, cond, not, ◌||◌, ◌&&◌, ◌==◌, nat_eq, nat_lt, nat_le, map, length, Option, Some, None}
-use Rattle.std.specs.List.{list_any, list_all}
+use Rattle.std.specs.Prelude.{ℕ, zero, suc, ℤ, pos, negsuc, ◌+ℤ◌, ◌*◌, List, [], ◌∷◌, ◌++◌, Bool, true, false, cond, not, ◌||◌, ◌&&◌, ◌==◌, nat_eq, nat_lt, nat_le, map, length, take, drop, Option, Some, None}
+use Rattle.std.specs.List.{list_any, list_all, range_with_len}
 use Rattle.arr_view.specs.Strided.{Strided}
 
 -- ---- elements
@@ -29,6 +29,10 @@ abbrev pub positions : List ℕ → ℕ
 positions [] = 1
 positions (n ∷ ns) = n * positions ns
 
+-- a number from `least` to `greatest`
+abbrev pub lies : ℕ → ℕ → ℕ → Bool
+lies least greatest x = nat_le least x && nat_le x greatest
+
 -- ---- two views
 
 abbrev pub has : List ℕ → ℕ → Bool
@@ -56,15 +60,25 @@ abbrev pub repeated : List ℕ → Bool
 repeated [] = false
 repeated (x ∷ xs) = has xs x || repeated xs
 
+-- ---- one view
+
+-- its elements are consecutive and rising, in row-major order
+abbrev pub is_consecutive : Strided → Bool
+is_consecutive v = same_lists (elements v) (range_with_len v.start (positions v.lengths))
+
 -- two positions have the same element
 abbrev pub repeats : Strided → Bool
 repeats v = repeated (elements v)
 
 -- ---- which views there are
 
+-- no base has more elements
+abbrev pub most_elements : ℕ
+most_elements = 1048576
+
 -- an element lies from 0 to 1,048,575
 abbrev pub is_place : ℤ → Bool
-is_place (pos n) = nat_lt n 1048576
+is_place (pos n) = nat_lt n most_elements
 is_place (negsuc n) = false
 
 abbrev pub is_zero : ℤ → Bool
@@ -85,7 +99,7 @@ abbrev pub is_view : Strided → Bool
 is_view v =
     has_rank v.lengths
     && (list_all (nat_le 1) v.lengths && (strides_kept v.lengths v.strides
-    && (nat_le (positions v.lengths) 1048576 && list_all is_place (places v.lengths v.strides (pos v.start)))))
+    && (nat_le (positions v.lengths) most_elements && list_all is_place (places v.lengths v.strides (pos v.start)))))
 
 -- ---- views from their parts
 
@@ -112,3 +126,8 @@ whole_view base lengths = record { base = base; start = 0; lengths = lengths; st
 
 abbrev pub shape_from : List ℕ → Option (List ℕ)
 shape_from lengths = cond (has_rank lengths) (Some lengths) None
+
+-- the lengths without one axis, counted from 0, or [1] where that is all there is
+abbrev pub dropped_axis : ℕ → List ℕ → List ℕ
+dropped_axis axis (n ∷ []) = 1 ∷ []
+dropped_axis axis lengths = take axis lengths ++ drop (suc axis) lengths

@@ -1,6 +1,6 @@
 //! Shapes: one to four lengths.
-ghost use Rattle.std.specs.Prelude.{◌≡◌, IsTrue};
-ghost use Rattle.arr_view.specs.Views.{has_rank, shape_from};
+ghost use Rattle.std.specs.Prelude.{◌≡◌, ◌<◌, IsTrue, length};
+ghost use Rattle.arr_view.specs.Views.{dropped_axis, has_rank, shape_from};
 
 use arrayvec::ArrayVec;
 use std::marker::Model;
@@ -35,6 +35,23 @@ impl Shape {
         }
         let lengths = ArrayVec::try_from(lengths).ok()?;
         Some(Shape { lengths })
+    }
+
+    /// The shape of these lengths without an axis, counted from 0; [1] where that is all it has (docs/LANGUAGE.md, "Shapes").
+    pub fn without_axis(lengths: &[u32], axis: usize) -> Shape
+        requires rank { IsTrue (has_rank lengths.now) }
+        requires axis { axis < length lengths.now }
+        ensures { result ≡ dropped_axis axis lengths.now }
+    {
+        let mut kept = ArrayVec::new();
+        for length in lengths {
+            kept.push(*length);
+        }
+        kept.remove(axis);
+        if kept.is_empty() {
+            kept.push(1);
+        }
+        Shape { lengths: kept }
     }
 
     /// The lengths, the first dimension's first (docs/LANGUAGE.md, "Views").

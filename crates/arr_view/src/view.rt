@@ -1,7 +1,7 @@
 //! Views: the elements of a base that a start, a shape and strides pick out.
 ghost use Rattle.std.specs.Prelude.{◌≡◌, ◌≤◌, ◌<◌, ◌-◌, ◌*ℤ◌, ◌&&◌, unsigned_abs, IsTrue, Some, None, IfSome, true, cond, length, get_or, pos, nat_le};
 ghost use Rattle.std.specs.List.{list_all, range_with_len};
-ghost use Rattle.arr_view.specs.Views.{is_view, is_place, places, positions, elements, view_from, whole_view, whole_strides, checked, kept_strides};
+ghost use Rattle.arr_view.specs.Views.{is_view, is_place, is_consecutive, has, lies, most_elements, places, positions, elements, view_from, whole_view, whole_strides, checked, kept_strides};
 
 use crate::shape::copied_list;
 use arrayvec::ArrayVec;
@@ -31,25 +31,26 @@ impl Model for View {
     ghost inverse = { λ d. record { base = d.base; start = d.start; shape = record { items = d.lengths }; strides = record { items = d.strides } } };
 }
 
-/// A view has at most this many positions, and its elements lie below this number.
-const MOST: u32 = 1_048_576;
+/// A base has at most this many elements: a view has at most this many positions, and its elements, counted from 0, lie below this
+/// number (docs/LANGUAGE.md, "Views").
+pub const MOST_ELEMENTS: u32 = 1_048_576;
 
 /// The number of positions of a shape; `None` where a length is 0 or there are too many positions.
 fn counted(lengths: &[u32]) -> Option<u32>
-    ensures { result ≡ cond (list_all (nat_le 1) lengths.now && nat_le (positions lengths.now) 1048576) (Some (positions lengths.now)) None }
+    ensures { result ≡ cond (list_all (nat_le 1) lengths.now && nat_le (positions lengths.now) most_elements) (Some (positions lengths.now)) None }
 {
     let mut count: u64 = 1;
     for length in lengths {
         count *= u64::from(*length);
-        if count == 0 || count > u64::from(MOST) {
+        if count == 0 || count > u64::from(MOST_ELEMENTS) {
             return None;
         }
     }
     Some(count as u32)
 }
 
-/// How far some steps of a stride lead, in elements.
-fn offset(steps: u32, stride: i32) -> i64
+/// How far some steps of a stride lead, in elements; below 0 where the stride is (docs/LANGUAGE.md, "Views").
+pub fn offset(steps: u32, stride: i32) -> i64
     ensures value { result ≡ pos steps *ℤ stride }
     ensures size { unsigned_abs result ≤ 9223372034707292160 }
 {
@@ -62,7 +63,7 @@ fn stays_inside(start: u32, lengths: &[u32], strides: &[i32]) -> bool
     requires lengths { list_all (nat_le 1) lengths.now ≡ true }
     ensures { result ≡ list_all is_place (places lengths.now strides.now (pos start)) }
 {
-    if start >= MOST {
+    if start >= MOST_ELEMENTS {
         return false;
     }
     let mut least = i64::from(start);
@@ -75,7 +76,7 @@ fn stays_inside(start: u32, lengths: &[u32], strides: &[i32]) -> bool
         } else {
             greatest += reach;
         }
-        if least < 0 || greatest >= i64::from(MOST) {
+        if least < 0 || greatest >= i64::from(MOST_ELEMENTS) {
             return false;
         }
     }
@@ -96,11 +97,11 @@ fn kept(lengths: &[u32], strides: &[i32]) -> ArrayVec<i32, 4>
 }
 
 /// The strides with which a shape of `count` positions fills a stretch of its base without a gap.
-fn gapless(lengths: &[u32], count: u32) -> ArrayVec<i32, 4>
+fn gapless_strides(lengths: &[u32], count: u32) -> ArrayVec<i32, 4>
     requires rank { length lengths.now ≤ 4 }
     requires lengths { list_all (nat_le 1) lengths.now ≡ true }
     requires count { count ≡ positions lengths.now }
-    requires few { count ≤ 1048576 }
+    requires few { count ≤ most_elements }
     ensures { result.items ≡ whole_strides lengths.now }
 {
     let mut strides = ArrayVec::new();
@@ -146,13 +147,14 @@ impl View {
         if shape.len() > 4 {
             return None;
         }
-        let strides = gapless(shape, counted(shape)?);
+        let strides = gapless_strides(shape, counted(shape)?);
         View::new(base, 0, shape, strides.as_slice())
     }
 
     /// An equal view (docs/MAP.md, "Copies").
     pub fn copied(&self) -> View
-        ensures { result ≡ self.now }
+        ensures value { result ≡ self.now }
+        ensures lawful { IsTrue (is_view result) }
     {
         View {
             base: self.base,
@@ -217,5 +219,37 @@ impl View {
         ensures lawful { IsTrue (is_view self.now) }
     {
         self.strides.as_slice()
+    }
+
+    /// The least and the greatest element, counted from 0 (docs/LANGUAGE.md, "Views").
+    pub fn ends(&self) -> (u32, u32)
+        ensures all { IsTrue (list_all (lies result.0 result.1) (elements self.now)) }
+        ensures least { IsTrue (has (elements self.now) result.0) }
+        ensures greatest { IsTrue (has (elements self.now) result.1) }
+        ensures lawful { IsTrue (is_view self.now) }
+    {
+        let mut least = i64::from(self.start());
+        let mut greatest = least;
+        let strides = self.strides();
+        for (axis, length) in self.shape().iter().enumerate() {
+            let stride = strides[axis];
+            let reach = offset(*length - 1, stride);
+            if stride < 0 {
+                least += reach;
+            } else {
+                greatest += reach;
+            }
+        }
+        (least as u32, greatest as u32)
+    }
+
+    /// Whether the elements are consecutive and rising in row-major order: the start, the start plus 1 and so on
+    /// (docs/LANGUAGE.md, "Views").
+    pub fn is_gapless(&self) -> bool
+        ensures value { result ≡ is_consecutive self.now }
+        ensures lawful { IsTrue (is_view self.now) }
+    {
+        let strides = gapless_strides(self.shape(), self.positions());
+        self.strides() == strides.as_slice()
     }
 }

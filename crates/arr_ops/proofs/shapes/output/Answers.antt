@@ -13,6 +13,6 @@ turned false e = sym e
 
 pub returns-clause-none : goal.returns-clause-none
 returns-clause-none c =
-    let there : is_some c.copied_view.result ≡ not (keeps_bases (kind c.args.op.now.code)) =
-    ap is_some c.copied_view.ensures ∙ out_there (kind c.args.op.now.code) (with_slot c.args.op.now) (operands_of (with_slot c.args.op.now) c.requires) in
+    let there : is_some c.copied.result ≡ not (keeps_bases (kind c.args.op.now.code)) =
+    ap is_some (c.copied.ensures ∙ c.out_view.ensures) ∙ out_there (kind c.args.op.now.code) (with_slot c.args.op.now) (operands_of (with_slot c.args.op.now) c.requires) in
     ((λ h. turned (keeps_bases (kind c.args.op.now.code)) (sym there ∙ h)), (λ h. there ∙ ap not h))

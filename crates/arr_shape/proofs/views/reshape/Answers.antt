@@ -38,7 +38,7 @@ returns-clause-view c =
     let whole_is : Some c.unwrap-whole.result ≡ Some (whole_view c.base.result shape) = sym c.unwrap-whole.ensures ∙ c.whole.ensures.value ∙ whole_there c.base.result shape good in
     let same : c.unwrap-whole.result ≡ whole_view c.base.result shape = cc in
     let even : positions v.lengths ≡ positions shape = sym c.positions-2.ensures.value ∙ sym c.if-positions.false ∙ c.positions.ensures.value ∙ ap (λ (w : Strided). positions w.lengths) same in
-    let in_order : is_consecutive v ≡ true = sym c.is_consecutive.ensures ∙ c.if-not-is_consecutive.false in
+    let in_order : is_consecutive v ≡ true = sym c.is_gapless.ensures.value ∙ c.if-not-is_gapless.false in
     let strides : c.strides.result.now ≡ whole_strides shape = c.strides.ensures.value ∙ ap (λ (w : Strided). w.strides) same in
     c.ok_or.ensures.value
     ∙ ap (λ o. ok_or o NotContiguous)
@@ -53,7 +53,7 @@ returns-clause-elements c =
     let whole_is : Some c.unwrap-whole.result ≡ Some (whole_view c.base.result shape) = sym c.unwrap-whole.ensures ∙ c.whole.ensures.value ∙ whole_there c.base.result shape good in
     let same : c.unwrap-whole.result ≡ whole_view c.base.result shape = cc in
     let even : positions v.lengths ≡ positions shape = sym c.positions-2.ensures.value ∙ sym c.if-positions.false ∙ c.positions.ensures.value ∙ ap (λ (w : Strided). positions w.lengths) same in
-    let in_order : is_consecutive v ≡ true = sym c.is_consecutive.ensures ∙ c.if-not-is_consecutive.false in
+    let in_order : is_consecutive v ≡ true = sym c.is_gapless.ensures.value ∙ c.if-not-is_gapless.false in
     let strides : c.strides.result.now ≡ whole_strides shape = c.strides.ensures.value ∙ ap (λ (w : Strided). w.strides) same in
     let is : c.ok_or.result ≡ Ok (strided_of v.base v.start shape (whole_strides shape)) =
     c.ok_or.ensures.value

@@ -5,8 +5,8 @@ use Rattle.arr_view.proofs.Places.{starts_high, span_turns, span_fails, Turned, 
 use Rattle.arr_view.proofs.view.stays_inside.Goals as goal
 use Rattle.arr_view.proofs.view.stays_inside.Goals.{then-stride-lt0, else-stride-lt0, then-least-lt0-via-then-least-lt0, then-least-lt0-via-else-least-lt0+then-greatest-from}
 
-pub returns-then-start-ge-MOST : goal.returns-then-start-ge-MOST
-returns-then-start-ge-MOST c = starts_high c.args.lengths.now c.args.strides.now c.args.start c.requires.same_rank c.requires.lengths c.if-start-ge-MOST.true
+pub returns-then-start-ge-MOST_ELEMENTS : goal.returns-then-start-ge-MOST_ELEMENTS
+returns-then-start-ge-MOST_ELEMENTS c = starts_high c.args.lengths.now c.args.strides.now c.args.start c.requires.same_rank c.requires.lengths c.if-start-ge-MOST_ELEMENTS.true
 
 pub returns-then-least-lt0 : goal.returns-then-least-lt0
 returns-then-least-lt0 c =

@@ -21,5 +21,5 @@ whole_parts base ns ss r e f =
 
 pub returns : goal.returns
 returns c =
-    let value = whole_parts c.args.base c.args.shape.now c.as_slice.result.now c.new.result c.new.ensures (c.as_slice.ensures.value ∙ c.gapless-strides.ensures) in
+    let value = whole_parts c.args.base c.args.shape.now c.as_slice.result.now c.new.result c.new.ensures (c.as_slice.ensures.value ∙ c.gapless_strides-strides.ensures) in
     record { value = value; in_order = made_whole c.args.base c.args.shape.now c.new.result value }
