@@ -12,11 +12,10 @@ use Rattle.arr_num.proofs.Wrapping.{fits_of_type}
 use Rattle.arr_view.specs.Strided.{Strided}
 use Rattle.arr_view.specs.Views.{elements}
 use Rattle.arr_ops.specs.Fits.{meets_need}
-use Rattle.arr_ops.specs.Formed.{same_elem}
+use Rattle.arr_num.specs.Types.{same_elem, same_elem_is}
 use Rattle.arr_ops.specs.Gathers.{need, position_named}
 use Rattle.arr_ops.specs.Memory.{Cell, read}
 use Rattle.arr_ops.proofs.Tests.{both_left, both_right}
-use Rattle.arr_ops.proofs.Spots.{same_elem_is}
 use Rattle.arr_store.specs.Cells.{number_at, size_at, takes, width_at}
 use Rattle.arr_store.proofs.Pages.{passes}
 use Rattle.arr_gather.specs.Steps.{Holds, number_named, numbers_at}

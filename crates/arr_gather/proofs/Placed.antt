@@ -12,11 +12,10 @@ use Rattle.arr_view.proofs.Checks.{lawful}
 use Rattle.arr_view.proofs.Counting.{some_position}
 use Rattle.arr_ops.specs.declared.gather.Scatter.{Scatter}
 use Rattle.arr_ops.specs.Fits.{meets_need}
-use Rattle.arr_ops.specs.Formed.{same_elem}
+use Rattle.arr_num.specs.Types.{same_elem, same_elem_is}
 use Rattle.arr_ops.specs.Gathers.{is_scatter, need, placed, position_named, scatter_fits, scattered}
 use Rattle.arr_ops.specs.Memory.{Cell, Change, Keeps, Writes, changed, read}
 use Rattle.arr_ops.proofs.Parts.{length-elements}
-use Rattle.arr_ops.proofs.Spots.{same_elem_is}
 use Rattle.arr_ops.proofs.Tests.{all_of, both_left, both_right, same_from_test}
 use Rattle.arr_ops.proofs.Typed.{get_in}
 use Rattle.arr_store.specs.Cells.{assigned, size_at}

@@ -2,7 +2,7 @@ use Rattle.std.proofs.Common.{arith, length}
 use Rattle.std.specs.List.{flat_map}
 use Rattle.arr_run.specs.Pieces.{segment_text}
 use Rattle.arr_run.proofs.Stands.{ran_in_arrays, ran_in_head, ran_whole}
-use Rattle.arr_run.proofs.laws.flushes_are_counted.Goals as goal
+use Rattle.arr_run.proofs.laws.parts_are_counted.Goals as goal
 
 pub returns : goal.returns
 returns c = record {
