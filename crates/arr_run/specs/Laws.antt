@@ -1,4 +1,4 @@
--- What follows from the relation of `serve`, and how many flushes stand in so many bytes.
+-- What follows from the relation of `serve`, and how many parts stand in so many bytes.
 use Rattle.std.specs.Prelude.{◌≡◌, ◌≢◌, ℕ, suc, ◌+◌, ◌-◌, ◌^◌, ◌<◌, ◌≤◌, List, ◌∷◌, ◌++◌, length, Option, Some}
 use Rattle.std.specs.List.{flat_map}
 use Rattle.std.specs.Io.KnownBytes.{Appends}
@@ -42,9 +42,9 @@ FaultsAreCounted =
     (status reads writes : ℕ) → reads < 2 ^ 64 - 1 → writes < 2 ^ 64 - 1 → Blames status reads reads writes writes
     → (status ≢ 3) × (status ≢ 4)
 
--- ---- how many flushes stand in so many bytes
+-- ---- how many parts stand in so many bytes
 
--- the first missing byte stands in the head of a flush: those before it have run
+-- the first missing byte stands in the head of a part: those before it have run
 abbrev pub RanInHead : Type 0
 RanInHead =
     (front : List Segment) (s : Segment) (rest : List Segment) (n : ℕ) → length (flat_map segment_text front) ≤ n

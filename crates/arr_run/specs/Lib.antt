@@ -3,5 +3,5 @@ pub mod Texts
 pub mod Pieces
 pub mod Answers
 pub mod Shown
-pub mod Lists
+pub mod Parts
 pub mod Laws

@@ -14,9 +14,9 @@ pub fn faults_are_counted()
     ensures { FaultsAreCounted }
 {}
 
-/// How many flushes count as run when a text of flushes was written so far: those before the one in whose head the first missing
+/// How many parts count as run when the text of a run was written so far: those before the one in whose head the first missing
 /// byte stands; with the one in whose array lines it stands; all of them where none is missing.
-pub fn flushes_are_counted()
+pub fn parts_are_counted()
     ensures head { RanInHead }
     ensures arrays { RanInArrays }
     ensures whole { RanWhole }

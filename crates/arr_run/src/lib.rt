@@ -3,8 +3,8 @@
 //! [`serve`] does all that the program does. Its contract is one relation, `Serves` in specs/Answers.antt: which status and which
 //! bytes a command may answer to a script, and what the store is then, wherever the writing ended. The arrays in it are the eager
 //! arrays of arr_elab, where each operation runs when its statement is reached and nothing is freed or put off; the lines are those
-//! of specs/Texts.antt. That the program records lists and frees bases shows in the store alone: where a write failed, it is what
-//! the lists up to that write leave.
+//! of specs/Texts.antt. That the program records lists, with gathers and scatters between them, and frees
+//! bases shows in the store alone: where a write failed, it is what the parts up to that write leave.
 //!
 //! A fault of reading or writing is answered only where the source or the sink counted one in this call (clause `blames`), and an
 //! accepted script is not refused (`complete`). Want of memory alone may come anywhere. What follows from the relation for a caller
@@ -12,12 +12,12 @@
 #![tactic(auto)]
 
 mod laws;
-mod lists;
+mod parts;
 mod program;
 mod script;
 mod texts;
 mod words;
 
-pub use laws::{faults_are_counted, flushes_are_counted, statuses_say};
+pub use laws::{faults_are_counted, parts_are_counted, statuses_say};
 pub use program::serve;
 pub use words::Command;

@@ -4,20 +4,19 @@ ghost use Rattle.std.specs.List.{list_all};
 ghost use Rattle.std.specs.String.{string_bytes};
 ghost use Rattle.arr_io.specs.Causes.{Rose};
 ghost use Rattle.arr_elab.specs.declared.step.Step.{Step};
-ghost use Rattle.arr_ops.specs.Formed.{is_formed};
-ghost use Rattle.arr_record.specs.Runs.{after_lists, each_fits, is_sized};
+ghost use Rattle.arr_record.specs.Runs.{after_parts, each_fits, is_part};
 ghost use Rattle.arr_store.specs.Stored.{cells};
 ghost use Rattle.arr_run.specs.Answers.{Accepts, Blames, IsReadOut, Serves};
-ghost use Rattle.arr_run.specs.Lists.{CountsBelow, Ended, RisesBy, StoppedIn, lists_text, memory_of};
+ghost use Rattle.arr_run.specs.Parts.{CountsBelow, Ended, RisesBy, StoppedIn, parts_text, memory_of};
 ghost use Rattle.arr_run.specs.Texts.{refusal_text};
 ghost use Rattle.arr_run.specs.Words.{command_of};
 
-use crate::lists::{RunFault, run_lists};
-use crate::script::{MOST_BYTES, ScriptFault, lists_of};
+use crate::parts::{RunFault, run_parts};
+use crate::script::{MOST_BYTES, ScriptFault, parts_of_text};
 use crate::texts::{USAGE, refusal_text};
 use crate::words::{Command, named_command};
 use arr_io::{ReadFailure, Sink, Source, WriteFault, read_up_to, write_all};
-use arr_record::Flush;
+use arr_record::Part;
 use arr_store::Store;
 use arr_syntax::Refusal;
 use std::alloc::Global;
@@ -44,7 +43,7 @@ const OUT_OF_MEMORY: u8 = 5;
 /// - 1: the script is refused; the line of the refusal was written, and the store is as it was.
 /// - 2: the words name no command; the usage line was written, and the store is as it was.
 /// - 3: a read of the script failed; nothing was written, and the store is as it was.
-/// - 4: a write failed; a front of the text was written. With an accepted script the store is what the lists leave up to the one in whose
+/// - 4: a write failed; a front of the text was written. With an accepted script the store is what its parts leave up to the list in whose
 ///   arrays the first missing byte stands; else it is as it was.
 /// - 5: no memory is left; a front of the text was written. With words that name no command it never comes.
 pub fn serve<S: Source, C: Source, K: Sink>(
@@ -106,29 +105,28 @@ fn run<S: Source, K: Sink>(alloc: Global, store: &mut Store, script: &mut S, sin
         Err(ReadFailure::ReadFault) => return READ_FAULT,
         Err(ReadFailure::TooLong) => unreachable!(),
     };
-    match lists_of(alloc, &bytes) {
-        Ok(lists) => run_all(alloc, &lists, store, sink),
+    match parts_of_text(alloc, &bytes) {
+        Ok(parts) => run_all(alloc, &parts, store, sink),
         Err(ScriptFault::Refused(refusal)) => refuse(alloc, refusal, sink),
         Err(ScriptFault::NoMemory) => OUT_OF_MEMORY,
     }
 }
 
-/// Runs the lists of an accepted script.
-fn run_all<K: Sink>(alloc: Global, lists: &[Flush], store: &mut Store, sink: &mut K) -> u8
-    requires formed { list_all is_formed lists.now ≡ true }
-    requires fitting { each_fits (memory_of store.old) lists.now ≡ true }
-    requires sized { list_all is_sized lists.now ≡ true }
-    requires few { length lists.now ≤ 4_194_304 }
+/// Runs the parts of an accepted script.
+fn run_all<K: Sink>(alloc: Global, parts: &[Part], store: &mut Store, sink: &mut K) -> u8
+    requires each { list_all is_part parts.now ≡ true }
+    requires fitting { each_fits (memory_of store.old) parts.now ≡ true }
+    requires few { length parts.now ≤ 4_194_304 }
     requires counts { CountsBelow (2 ^ 59) store.old }
-    ensures ended { Ended 0 result (K.written sink.old) (K.written sink.new) (lists_text (memory_of store.old) lists.now) }
+    ensures ended { Ended 0 result (K.written sink.old) (K.written sink.new) (parts_text (memory_of store.old) parts.now) }
     ensures later { K.faults sink.old ≤ K.faults sink.new }
     ensures cause { result ≡ 4 → Rose (K.faults sink.old) (K.faults sink.new) }
-    ensures memory { result ≡ 0 → memory_of store.new ≡ after_lists (memory_of store.old) lists.now }
-    ensures counts { result ≡ 0 → RisesBy (length lists.now * 2 ^ 32) store.old store.new }
+    ensures memory { result ≡ 0 → memory_of store.new ≡ after_parts (memory_of store.old) parts.now }
+    ensures counts { result ≡ 0 → RisesBy (length parts.now * 2 ^ 32) store.old store.new }
     ensures stopped { result ≡ 4
-        → StoppedIn (memory_of store.old) lists.now (K.written sink.old) (K.written sink.new) store.old store.new }
+        → StoppedIn (memory_of store.old) parts.now (K.written sink.old) (K.written sink.new) store.old store.new }
 {
-    match run_lists(alloc, lists, store, sink) {
+    match run_parts(alloc, parts, store, sink) {
         Ok(()) => DONE,
         Err(RunFault::WriteFault) => WRITE_FAULT,
         Err(RunFault::NoMemory) => OUT_OF_MEMORY,

@@ -1,0 +1,9 @@
+pub mod Bases
+pub mod Numbers
+pub mod Picking
+pub mod Picked
+pub mod Placing
+pub mod Copying
+pub mod Feeding
+pub mod Scattered
+pub mod Placed

@@ -1,0 +1,21 @@
+//! Reading and writing by an index, on a store.
+//!
+//! [`gather`] makes a base whose numbers are those that an index names; [`scatter`] writes values to the positions that an index names,
+//! the last one where several meet. Both go number by number through the store's own calls, in one walk over the index.
+//!
+//! The promise: from a store that fits the operation, the bases are afterwards those that its definition leaves (`gathered`, `scattered` of
+//! arr_ops); the bytes loaded rise by at most what index and results weigh, the bytes stored exactly by what is written, and a gather makes
+//! one buffer. Memory is taken for the new base, and for a copy of the index or the values of a scatter where they stand in the target's
+//! base; an Err is want of it, and then the bases are as they were.
+//!
+//! The definitions: `specs/Steps.antt` has a store as a memory (`memory_of`) and what filling a base says; `specs/Feeds.antt` the numbers
+//! of a view that are still to come (`to_come`), and what writing them one after another says. No clause of a public call names the latter.
+#![tactic(auto)]
+
+mod feed;
+mod gathering;
+mod position;
+mod scattering;
+
+pub use gathering::gather;
+pub use scattering::scatter;
