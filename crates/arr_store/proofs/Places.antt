@@ -14,8 +14,8 @@ use Rattle.arr_num.specs.Numbers.{in_type}
 use Rattle.arr_num.specs.declared.elem.Elem.{Elem}
 use Rattle.arr_view.specs.Views.{to_place, is_place}
 use Rattle.arr_view.proofs.Places.{place_low, place_high}
-use Rattle.arr_ops.specs.Memory.{Cell, write}
-use Rattle.arr_store.specs.Runs.{moved, run_place, run_places, IsOf}
+use Rattle.arr_ops.specs.Memory.{Cell, Slot, write}
+use Rattle.arr_store.specs.Runs.{moved, run_place, run_places, IsOf, IsOfSlot}
 
 -- ---- places
 
@@ -85,3 +85,7 @@ taken_front (x ∷ xs) ys (suc n) l = ap (λ r. x ∷ r) (taken_front xs ys n (o
 pub of_some : (t : Elem) (c : Option Cell) → IsOf t c → IsSome c
 of_some t None h = absurd h
 of_some t (Some c) h = refl
+
+pub slot_some : (t : Elem) (s : Option Slot) → IsOfSlot t s → IsSome s
+slot_some t None h = absurd h
+slot_some t (Some s) h = refl

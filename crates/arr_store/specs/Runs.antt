@@ -3,7 +3,7 @@ use Rattle.std.specs.Prelude.{ℕ, zero, suc, ℤ, pos, ◌≡◌, ◌<◌, ◌+
 use Rattle.std.specs.List.{range_with_len}
 use Rattle.arr_num.specs.declared.elem.Elem.{Elem}
 use Rattle.arr_view.specs.Views.{to_place, is_place}
-use Rattle.arr_ops.specs.Memory.{Cell, Writes, changed}
+use Rattle.arr_ops.specs.Memory.{Cell, Slot, Writes, changed, write}
 
 -- i strides on from z
 abbrev pub moved : ℤ → ℤ → ℕ → ℤ
@@ -28,3 +28,13 @@ IsOf t (Some c) = t ≡ c.elem
 -- a cell with numbers written at the places of a run
 abbrev pub with_run : Option Cell → ℕ → ℤ → ℕ → List ℤ → Option Cell
 with_run c start stride count xs = changed (Writes (run_places start stride count) xs) c
+
+-- a slot is there, and of the type
+abbrev pub IsOfSlot : Elem → Option Slot → Type 0
+IsOfSlot t None = ⊥
+IsOfSlot t (Some s) = t ≡ s.elem
+
+-- a slot with numbers written at the places of a run
+abbrev pub with_slot_run : Option Slot → ℕ → ℤ → ℕ → List ℤ → Option Slot
+with_slot_run None start stride count xs = None
+with_slot_run (Some s) start stride count xs = Some (record { elem = s.elem; lengths = s.lengths; numbers = write (run_places start stride count) xs s.numbers })

@@ -7,7 +7,8 @@
 //! changes that one number, `make` adds a base of zeros and `drop_base` takes one away; each raises its own counter and no other,
 //! and none falls. Every number is of its base's type. A refused `make` changes nothing, and only what makes a store, a base or
 //! slots takes memory. `load` and `store` take constant time: an index leads from the base to its buffer. `load_run` and
-//! `store_run` move numbers that lie a stride apart ([`Run`]) between a base and a [`Buffer`] of its type, and count each of them.
+//! `store_run` move numbers that lie a stride apart ([`Run`]) between a base and a [`Buffer`] of its type, and count each of them;
+//! `put_run` puts such numbers into a slot.
 //!
 //! The definitions: `specs/Stored.antt` has what a contract sees of a store, and its bases as a function from numbers to cells
 //! (`cells`), as `Memory` of arr_ops has them; `specs/Slots.antt` has the slots as such a function (`slots_of`) and the slots of a

@@ -10,11 +10,11 @@ use Rattle.arr_ops.specs.declared.op.Op.{Op}
 use Rattle.arr_ops.specs.Ops.{outputs, inputs, views}
 use Rattle.arr_ops.specs.Memory.{Memory}
 use Rattle.arr_ops.specs.Fits.{fits}
-use Rattle.arr_ops.specs.Costs.{distinct, reads}
+use Rattle.arr_ops.specs.Costs.{reads}
 use Rattle.arr_ops.proofs.Pairs.{All_weaker}
 use Rattle.arr_ops.proofs.Spots.{all_left}
 use Rattle.arr_store.specs.Cells.{number_at}
-use Rattle.arr_strips.specs.Columns.{Columns, place_at, ends, filled}
+use Rattle.arr_strips.specs.Columns.{place_at, ends, filled}
 use Rattle.arr_strips.proofs.Eager.{outs_filled}
 use Rattle.arr_strips.specs.Strips.{Bases, loaded, joined, stored}
 use Rattle.arr_strips.specs.Blocks.{is_block, block_positions, stores}
