@@ -1,6 +1,6 @@
 -- The order of a partition, block after block.
-use Rattle.std.proofs.Common.{◌≡◌, ℕ, zero, suc, ◌+◌, ◌-◌, ◌<◌, ◌≤◌, min, List, [], ◌∷◌, ◌++◌, Bool, true, false, cond, not, ◌&&◌, ◌||◌, Option, Some, None, length, map, drop, take, get_or, inl, inr, refl, ap, ap₂, sym, subst, ◌∙◌, arith}
-use Rattle.std.specs.Prelude.{◌==◌, nat_lt, nat_eq}
+use Rattle.std.proofs.Common.{◌≡◌, ℕ, suc, ◌+◌, ◌-◌, ◌<◌, ◌≤◌, List, [], ◌∷◌, ◌++◌, Bool, true, false, cond, not, ◌&&◌, ◌||◌, Option, Some, None, length, map, drop, get_or, inl, inr, refl, ap, ap₂, sym, ◌∙◌, arith}
+use Rattle.std.specs.Prelude.{nat_lt, nat_eq}
 use Rattle.std.specs.List.{All, AllByRecursion, enumerate_from, filter, list_all, list_any, range_with_len}
 use Rattle.std.specs.Option.{option_map}
 use Rattle.std.proofs.lemmas.Bool.{and_parts, and_from, eq-eqb, eqb-true, false≢true, lt-ltb, le-ltb, ltb-true, ltb-false, cases_lt}
@@ -12,11 +12,11 @@ use Rattle.arr_ops.specs.declared.op.Op.{Op}
 use Rattle.arr_ops.specs.Ops.{dep}
 use Rattle.arr_ops.specs.Plans.{ascends, numbered}
 use Rattle.arr_ops.specs.Order.{In, earlier, first_block, is_ready, leads, least_of, ordered, ordered_within, same_block}
-use Rattle.arr_ops.proofs.Members.{all_in, in_all}
+use Rattle.arr_ops.proofs.Members.{all_in}
 use Rattle.arr_ops.proofs.Pairs.{Pairs, All_weaker, Pairs_weaker, Pairs_All, Pairs_both}
 use Rattle.arr_ops.proofs.Legality.{Leading, any_found, any_there, in_has, leads_from, leads_to}
 use Rattle.arr_deps.specs.Graph.{leads_to as goes_to, op_at, op_in}
-use Rattle.arr_heur.specs.Partitions.{block_in, comes_first, stands_first, waits}
+use Rattle.arr_heur.specs.Partitions.{block_in, comes_first, waits}
 use Rattle.arr_heur.proofs.Merged.{rising}
 use Rattle.arr_heur.proofs.Stretches.{items_end}
 use Rattle.arr_heur.proofs.LinearPlan.{between_enumerated}
@@ -48,17 +48,17 @@ is_at k (op ∷ list) = (
     both (x ∷ xs) a b = ((a.0, b.0), both xs a.1 b.1)
 
 -- what two operations of the list, the first before the second, have in common with their numbers
-record Told (list : List Op) (x y : ℕ × Op) : Type 0 where
+pub record Told (list : List Op) (x y : ℕ × Op) : Type 0 where
   pub rises : x.0 < y.0
   pub first : x.1 ≡ op_at list x.0
   pub second : y.1 ≡ op_at list y.0
 
-all_told : (list : List Op) → Pairs (Told list) (numbered list)
+pub all_told : (list : List Op) → Pairs (Told list) (numbered list)
 all_told list =
     Pairs_All (λ (x : ℕ × Op). x.1 ≡ op_in list (x.0 - 1)) (λ (x y : ℕ × Op). x.0 < y.0) (Told list) (λ x y e f l. record { rises = l; first = e; second = f }) (numbered list) (is_at 1 list) (rising 1 list)
 
 -- of two numbers of the list, the first before the second, the pair stands in the list
-pairs_at : {Q : Type 0} (k : ℕ) (list : List Op) (R : ℕ × Op → ℕ × Op → Type 0) → Pairs R (enumerate_from k list) → (i j : ℕ) → k ≤ i → i < j → j < k + length list
+pub pairs_at : {Q : Type 0} (k : ℕ) (list : List Op) (R : ℕ × Op → ℕ × Op → Type 0) → Pairs R (enumerate_from k list) → (i j : ℕ) → k ≤ i → i < j → j < k + length list
     → ((x y : ℕ × Op) → x.0 ≡ i → y.0 ≡ j → R x y → Q) → Q
 pairs_at k [] R h i j l m u f = absurd (omega arith)
 pairs_at {Q} k (op ∷ list) R h i j l m u f =

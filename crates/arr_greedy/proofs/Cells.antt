@@ -1,0 +1,128 @@
+-- Flags in rows, and one that is set.
+use Rattle.std.proofs.Common.{◌≡◌, ◌≢◌, ℕ, ◌+◌, ◌*◌, ◌<◌, List, Bool, true, false, cond, not, ◌||◌, ◌&&◌, refl, ap, ap₂, sym, ◌∙◌, arith, length, get_or, set, inl, inr}
+use Rattle.std.proofs.lemmas.Bool.{eq-eqb, ne_eqb, cases_eq, cases_lt, lt-ltb, le-ltb}
+use Rattle.std.proofs.lemmas.List.{get_or-set_same, get_or-set_other}
+use Rattle.std.proofs.lemmas.Nat.{mul-add-lt, same_from_place}
+use Rattle.std.specs.Prelude.{◌==◌, nat_lt}
+use Rattle.arr_greedy.specs.Fast.{flag, amount}
+use Rattle.arr_greedy.specs.Ways.{reach_after}
+
+pub flag_set : (rows : List Bool) (w row column : ℕ) (v : Bool) → length rows ≡ w * w → row < w → column < w → (x y : ℕ) → x < w → y < w
+    → flag (set rows (row * w + column) v) w x y ≡ cond (x == row && y == column) v (flag rows w x y)
+flag_set rows w row column v size r c x y l m =
+    elim (cases_eq x row) as (λ _. flag (set rows (row * w + column) v) w x y ≡ cond (x == row && y == column) v (flag rows w x y)) [
+      | inl e ↦ elim (cases_eq y column) as (λ _. flag (set rows (row * w + column) v) w x y ≡ cond (x == row && y == column) v (flag rows w x y)) [
+        | inl f ↦
+            ap₂ (λ i j. get_or (set rows (row * w + column) v) (i * w + j) false) e f
+            ∙ get_or-set_same rows (row * w + column) v false (let k : row * w + column < w * w = mul-add-lt row w column w r c in omega arith)
+            ∙ sym (ap₂ (λ s t. cond (s && t) v (flag rows w x y)) (eq-eqb x row e) (eq-eqb y column f))
+        | inr f ↦
+            get_or-set_other rows (row * w + column) (x * w + y) v false (λ k. f (same_from_place x y row column w m c k).1)
+            ∙ sym (ap₂ (λ s t. cond (s && t) v (flag rows w x y)) (eq-eqb x row e) (ne_eqb y column f))
+      ]
+      | inr e ↦
+          get_or-set_other rows (row * w + column) (x * w + y) v false (λ k. e (same_from_place x y row column w m c k).0)
+          ∙ sym (ap (λ s. cond (s && (y == column)) v (flag rows w x y)) (ne_eqb x row e))
+    ]
+
+pub amount_set : (rows : List ℕ) (w row column : ℕ) (v : ℕ) → length rows ≡ w * w → row < w → column < w → (x y : ℕ) → x < w → y < w
+    → amount (set rows (row * w + column) v) w x y ≡ cond (x == row && y == column) v (amount rows w x y)
+amount_set rows w row column v size r c x y l m =
+    elim (cases_eq x row) as (λ _. amount (set rows (row * w + column) v) w x y ≡ cond (x == row && y == column) v (amount rows w x y)) [
+      | inl e ↦ elim (cases_eq y column) as (λ _. amount (set rows (row * w + column) v) w x y ≡ cond (x == row && y == column) v (amount rows w x y)) [
+        | inl f ↦
+            ap₂ (λ i j. get_or (set rows (row * w + column) v) (i * w + j) 0) e f
+            ∙ get_or-set_same rows (row * w + column) v 0 (let k : row * w + column < w * w = mul-add-lt row w column w r c in omega arith)
+            ∙ sym (ap₂ (λ s t. cond (s && t) v (amount rows w x y)) (eq-eqb x row e) (eq-eqb y column f))
+        | inr f ↦
+            get_or-set_other rows (row * w + column) (x * w + y) v 0 (λ k. f (same_from_place x y row column w m c k).1)
+            ∙ sym (ap₂ (λ s t. cond (s && t) v (amount rows w x y)) (eq-eqb x row e) (ne_eqb y column f))
+      ]
+      | inr e ↦
+          get_or-set_other rows (row * w + column) (x * w + y) v 0 (λ k. e (same_from_place x y row column w m c k).0)
+          ∙ sym (ap (λ s. cond (s && (y == column)) v (amount rows w x y)) (ne_eqb x row e))
+    ]
+
+-- ---- loops that set one flag a turn, over what the rows were, are, and are next
+
+less_more : (x i : ℕ) → x ≢ i → nat_lt x (i + 1) ≡ nat_lt x i
+less_more x i h =
+    elim (cases_lt x i) as (λ _. nat_lt x (i + 1) ≡ nat_lt x i) [
+      | inl l ↦ lt-ltb x (i + 1) (omega arith) ∙ sym (lt-ltb x i l)
+      | inr l ↦ le-ltb x (i + 1) (omega arith) ∙ sym (le-ltb x i l)
+    ]
+
+less_self : (i : ℕ) → nat_lt i i ≡ false
+less_self i = le-ltb i i (omega arith)
+
+less_next : (i : ℕ) → nat_lt i (i + 1) ≡ true
+less_next i = lt-ltb i (i + 1) (omega arith)
+
+and_not : (b : Bool) → (b && false) ≡ false
+and_not true = refl
+and_not false = refl
+
+pub column_step : (o l n : ℕ → ℕ → Bool) (w left right i : ℕ) (v : Bool) → i < w → left < w → right < w
+    → ((x y : ℕ) → x < w → y < w → l x y ≡ cond ((y == left && not (x == left)) && nat_lt x i) (o x left && o x right) (o x y))
+    → v ≡ (l i left && (i == left || l i right))
+    → ((x y : ℕ) → x < w → y < w → n x y ≡ cond (x == i && y == left) v (l x y))
+    → (x y : ℕ) → x < w → y < w → n x y ≡ cond ((y == left && not (x == left)) && nat_lt x (i + 1)) (o x left && o x right) (o x y)
+column_step o l n w left right i v im lm rm inv e put x y xm ym =
+    elim (cases_eq x i) as (λ _. n x y ≡ cond ((y == left && not (x == left)) && nat_lt x (i + 1)) (o x left && o x right) (o x y)) [
+      | inl f ↦ elim (cases_eq y left) as (λ _. n x y ≡ cond ((y == left && not (x == left)) && nat_lt x (i + 1)) (o x left && o x right) (o x y)) [
+        | inl g ↦
+            put x y xm ym ∙ ap₂ (λ s t. cond (s && t) v (l x y)) (eq-eqb x i f) (eq-eqb y left g) ∙ e
+            ∙ ap₂ (λ p q. p && (i == left || q)) (same left lm) (same right rm)
+            ∙ whole (i == left) (o i left) (o i right)
+            ∙ sym (ap₂ (λ a b. cond ((b == left && not (a == left)) && nat_lt a (i + 1)) (o a left && o a right) (o a b)) f g
+            ∙ ap₂ (λ s t. cond ((s && not (i == left)) && t) (o i left && o i right) (o i left)) (eq-eqb left left refl) (less_next i))
+        | inr g ↦
+            put x y xm ym ∙ ap₂ (λ s t. cond (s && t) v (l x y)) (eq-eqb x i f) (ne_eqb y left g)
+            ∙ inv x y xm ym
+            ∙ ap (λ t. cond ((t && not (x == left)) && nat_lt x i) (o x left && o x right) (o x y)) (ne_eqb y left g)
+            ∙ sym (ap (λ t. cond ((t && not (x == left)) && nat_lt x (i + 1)) (o x left && o x right) (o x y)) (ne_eqb y left g))
+      ]
+      | inr f ↦
+          put x y xm ym ∙ ap (λ s. cond (s && (y == left)) v (l x y)) (ne_eqb x i f) ∙ inv x y xm ym
+          ∙ ap (λ t. cond ((y == left && not (x == left)) && t) (o x left && o x right) (o x y)) (sym (less_more x i f))
+    ]
+  where
+    same : (k : ℕ) → k < w → l i k ≡ o i k
+    same k m = inv i k im m ∙ ap (λ t. cond t (o i left && o i right) (o i k)) (ap (λ t. (k == left && not (i == left)) && t) (less_self i) ∙ and_not (k == left && not (i == left)))
+
+    whole : (t p q : Bool) → (p && (t || q)) ≡ cond ((true && not t) && true) (p && q) p
+    whole true true q = refl
+    whole true false q = refl
+    whole false p q = refl
+
+pub reach_step : (o l n : ℕ → ℕ → Bool) (w left right row i : ℕ) (v reaches : Bool) → i < w → left < w → right < w → row < w → row ≢ left → row ≢ right
+    → ((x y : ℕ) → x < w → y < w → l x y ≡ cond (x == row && nat_lt y i) (reach_after (λ k. k) o left right x y) (o x y))
+    → reaches ≡ (o row left || o row right)
+    → v ≡ cond (i == left) reaches (l row i || (reaches && (l left i || l right i)))
+    → ((x y : ℕ) → x < w → y < w → n x y ≡ cond (x == row && y == i) v (l x y))
+    → (x y : ℕ) → x < w → y < w → n x y ≡ cond (x == row && nat_lt y (i + 1)) (reach_after (λ k. k) o left right x y) (o x y)
+reach_step o l n w left right row i v reaches im lm rm wm nl nr inv er e put x y xm ym =
+    elim (cases_eq x row) as (λ _. n x y ≡ cond (x == row && nat_lt y (i + 1)) (reach_after (λ k. k) o left right x y) (o x y)) [
+      | inl f ↦ elim (cases_eq y i) as (λ _. n x y ≡ cond (x == row && nat_lt y (i + 1)) (reach_after (λ k. k) o left right x y) (o x y)) [
+        | inl g ↦
+            put x y xm ym ∙ ap₂ (λ s t. cond (s && t) v (l x y)) (eq-eqb x row f) (eq-eqb y i g) ∙ e
+            ∙ ap₂ (λ p q. cond (i == left) reaches (p || (reaches && q))) here (ap₂ (λ p q. p || q) (there left lm (λ k. nl (sym k))) (there right rm (λ k. nr (sym k))))
+            ∙ ap (λ r. cond (i == left) r (o row i || (r && (o left i || o right i)))) er
+            ∙ sym (ap (λ t. cond t (cond (i == left) false (o left i || o right i)) (cond (i == left) (o row left || o row right) (o row i || ((o row left || o row right) && (o left i || o right i))))) (ne_eqb row left nl))
+            ∙ sym (ap₂ (λ a b. cond (a == row && nat_lt b (i + 1)) (reach_after (λ k. k) o left right a b) (o a b)) f g
+            ∙ ap₂ (λ s t. cond (s && t) (reach_after (λ k. k) o left right row i) (o row i)) (eq-eqb row row refl) (less_next i))
+        | inr g ↦
+            put x y xm ym ∙ ap₂ (λ s t. cond (s && t) v (l x y)) (eq-eqb x row f) (ne_eqb y i g) ∙ inv x y xm ym
+            ∙ ap (λ t. cond (x == row && t) (reach_after (λ k. k) o left right x y) (o x y)) (sym (less_more y i g))
+      ]
+      | inr f ↦
+          put x y xm ym ∙ ap (λ s. cond (s && (y == i)) v (l x y)) (ne_eqb x row f) ∙ inv x y xm ym
+          ∙ ap (λ t. cond (t && nat_lt y i) (reach_after (λ k. k) o left right x y) (o x y)) (ne_eqb x row f)
+          ∙ sym (ap (λ t. cond (t && nat_lt y (i + 1)) (reach_after (λ k. k) o left right x y) (o x y)) (ne_eqb x row f))
+    ]
+  where
+    here : l row i ≡ o row i
+    here = inv row i wm im ∙ ap (λ t. cond t (reach_after (λ k. k) o left right row i) (o row i)) (ap (λ t. (row == row) && t) (less_self i) ∙ and_not (row == row))
+
+    there : (k : ℕ) → k < w → k ≢ row → l k i ≡ o k i
+    there k m h = inv k i m im ∙ ap (λ t. cond (t && nat_lt i i) (reach_after (λ k. k) o left right k i) (o k i)) (ne_eqb k row h)

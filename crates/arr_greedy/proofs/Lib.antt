@@ -1,0 +1,13 @@
+mod Ways
+mod BlockMerges
+mod Fast
+mod Scan
+mod Cells
+mod Turns
+mod Opening
+mod Filling
+mod KeyedBlocks
+mod Chosen
+mod Begun
+mod Grids
+mod GreedyBlocks

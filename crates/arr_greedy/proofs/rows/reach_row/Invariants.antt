@@ -1,0 +1,11 @@
+use Rattle.std.proofs.Common.{◌≡◌, ◌<◌, ◌*◌, ℕ, ◌&&◌, cond, length}
+use Rattle.std.specs.Prelude.{◌==◌, nat_lt}
+use Rattle.arr_greedy.specs.Fast.{flag}
+use Rattle.arr_greedy.specs.Ways.{reach_after}
+use Rattle.arr_greedy.proofs.rows.reach_row.Given as goal
+
+abbrev pub invariant-loop-column : goal.invariant-loop-column
+invariant-loop-column l = record {
+  size : length l.rows ≡ l.width * l.width;
+  row : (x y : ℕ) → x < l.width → y < l.width → flag l.rows l.width x y ≡ cond (x == l.row && nat_lt y l.column) (reach_after (λ k. k) (flag l.fn.rows l.width) l.left l.right x y) (flag l.fn.rows l.width x y);
+}

@@ -1,0 +1,10 @@
+use Rattle.std.proofs.Common.{◌≡◌, ◌<◌, ◌≤◌, ◌+◌, ◌*◌, ℕ, length, false}
+use Rattle.arr_greedy.specs.Fast.{flag, by_step}
+use Rattle.arr_greedy.proofs.start.fill_rows.Given as goal
+
+abbrev pub invariant-loop-back : goal.invariant-loop-back
+invariant-loop-back l = record {
+  size : length l.rows ≡ l.width * l.width;
+  filled : (x y : ℕ) → x < l.width → y < l.width → l.width ≤ x + l.back → flag l.rows l.width x y ≡ by_step (flag l.deps l.width) (flag l.rows l.width) l.width x y;
+  clear : (x y : ℕ) → x < l.width → y < l.width → x + l.back < l.width → flag l.rows l.width x y ≡ false;
+}

@@ -1,0 +1,241 @@
+//! The merges of `greedy`.
+ghost use Rattle.std.specs.Prelude.{◌≡◌, ◌<◌, ◌*◌, ◌+◌, ◌==◌, ◌&&◌, ◌||◌, ◌≢◌, ◌++◌, ◌∷◌, [], length, ℕ, IfOk, IsTrue, cond, not, min, max, get_or, map};
+ghost use Rattle.std.specs.List.{All, filter, range_with_len};
+ghost use Rattle.arr_view.specs.Views.{has};
+ghost use Rattle.arr_ops.specs.Plans.{not_empty, numbered};
+ghost use Rattle.arr_ops.specs.Order.{least_of};
+ghost use Rattle.arr_heur.specs.Planners.{greedy_blocks, greedy_within, merge, numbers, saving, singles, union};
+ghost use Rattle.arr_greedy.specs.Blocks.{live, row_at, Keyed};
+ghost use Rattle.arr_greedy.specs.Fast.{amount, block_at, flag, fuses_after, Started, Told};
+ghost use Rattle.arr_greedy.specs.Ways.{reach_after};
+
+use crate::NoMemory;
+use crate::choice::next_pair;
+use crate::rows::{fuse_rows, reach_rows};
+use arr_cost::Costs;
+use std::alloc::Global;
+
+/// The numbers of the block at a place, none where no block stands there.
+fn row_at(blocks: &[Vec<u32>], place: usize) -> &[u32]
+    requires { place < length blocks.now }
+    ensures { result.now ≡ row_at (map (λ b. b.items) blocks.now) place }
+{
+    blocks[place].as_slice()
+}
+
+/// What one block in place of two saves.
+fn pair_saving(
+    alloc: Global,
+    costs: &Costs,
+    blocks: &[Vec<u32>],
+    left: usize,
+    right: usize,
+) -> Result<u64, NoMemory>
+    requires left_in { left < length blocks.now }
+    requires right_in { right < length blocks.now }
+    requires keyed { Keyed (map (λ b. b.items) blocks.now) }
+    ensures { IfOk result (λ s. s ≡ saving costs.now (block_at left (live (map (λ b. b.items) blocks.now)), block_at right (live (map (λ b. b.items) blocks.now)))) }
+{
+    let saved = costs.saving(alloc, row_at(blocks, left), row_at(blocks, right))?;
+    Ok(saved)
+}
+
+/// Whether one of two blocks has a number.
+fn either_has(left: &[u32], right: &[u32], number: u32) -> bool
+    ensures { result ≡ (has left.now number || has right.now number) }
+{
+    has(left, number) || has(right, number)
+}
+
+fn has(block: &[u32], number: u32) -> bool
+    ensures { result ≡ has block.now number }
+{
+    block.iter().any(|other| number == *other)
+}
+
+fn push_if(inside: bool, found: &mut Vec<u32>, number: u32) -> Result<(), NoMemory>
+    ensures { IfOk result (λ done. found.new.items ≡ found.old.items ++ cond inside (number ∷ []) []) }
+{
+    if inside {
+        found.push(number)?;
+    }
+    Ok(())
+}
+
+/// The numbers of two blocks, ascending.
+fn union_of(alloc: Global, left: &[u32], right: &[u32], count: u32) -> Result<Vec<u32>, NoMemory>
+    requires { count < 256 + 1 }
+    ensures { IfOk result (λ both. both.items ≡ filter (λ i. has left.now i || has right.now i) (range_with_len 1 count)) }
+{
+    let mut both = Vec::new(alloc);
+    for place in 0..count {
+        let number = place + 1;
+        push_if(either_has(left, right, number), &mut both, number)?;
+    }
+    Ok(both)
+}
+
+/// Makes one block of two, at the place of the first.
+fn join(
+    alloc: Global,
+    costs: &Costs,
+    blocks: &mut Vec<Vec<u32>>,
+    left: usize,
+    right: usize,
+) -> Result<(), NoMemory>
+    requires left_in { left < length blocks.old.items }
+    requires right_in { right < length blocks.old.items }
+    requires apart { left ≢ right }
+    requires some { 0 < left }
+    requires left_block { IsTrue (not_empty (row_at (map (λ b. b.items) blocks.old.items) left)) }
+    requires right_block { IsTrue (not_empty (row_at (map (λ b. b.items) blocks.old.items) right)) }
+    requires key { least_of (union (numbered costs.now) (row_at (map (λ b. b.items) blocks.old.items) left) (row_at (map (λ b. b.items) blocks.old.items) right)) ≡ left }
+    requires keyed { Keyed (map (λ b. b.items) blocks.old.items) }
+    ensures long { IfOk result (λ done. length blocks.new.items ≡ length blocks.old.items) }
+    ensures keyed { IfOk result (λ done. Keyed (map (λ b. b.items) blocks.new.items)) }
+    ensures blocks { IfOk result (λ done. live (map (λ b. b.items) blocks.new.items) ≡ merge (numbered costs.now) (block_at left (live (map (λ b. b.items) blocks.old.items))) (block_at right (live (map (λ b. b.items) blocks.old.items))) (live (map (λ b. b.items) blocks.old.items))) }
+{
+    let both = union_of(
+        alloc,
+        row_at(blocks.as_slice(), left),
+        row_at(blocks.as_slice(), right),
+        costs.len(),
+    )?;
+    blocks[left] = both;
+    blocks[right] = Vec::new(alloc);
+    Ok(())
+}
+
+/// Takes a key out.
+fn drop_key(keys: &mut Vec<usize>, key: usize)
+    ensures { keys.new.items ≡ filter (λ k. not (k == key)) keys.old.items }
+{
+    keys.retain(|k| *k != key);
+}
+
+/// Sets one number.
+fn put_amount(rows: &mut [u64], width: usize, row: usize, column: usize, value: u64)
+    requires row_in { row < width }
+    requires column_in { column < width }
+    requires size { length rows.old ≡ width * width }
+    ensures size { length rows.new ≡ width * width }
+    ensures put { (x y : ℕ) → x < width → y < width → amount rows.new width x y ≡ cond (x == row && y == column) value (amount rows.old width x y) }
+{
+    rows[row * width + column] = value;
+}
+
+/// The savings of one block with each of the others.
+fn price_row(
+    alloc: Global,
+    costs: &Costs,
+    blocks: &[Vec<u32>],
+    keys: &[usize],
+    saved: &mut [u64],
+    width: usize,
+    left: usize,
+) -> Result<(), NoMemory>
+    requires left_in { left < width }
+    requires blocks_in { length blocks.now ≡ width }
+    requires keyed { Keyed (map (λ b. b.items) blocks.now) }
+    requires keys_in { All (λ k. k < width) keys.now }
+    requires size { length saved.old ≡ width * width }
+    ensures size { length saved.new ≡ width * width }
+    ensures priced { IfOk result (λ done. (i : ℕ) → i < length keys.now → amount saved.new width (min (get_or keys.now i 0) left) (max (get_or keys.now i 0) left) ≡ saving costs.now (block_at (min (get_or keys.now i 0) left) (live (map (λ b. b.items) blocks.now)), block_at (max (get_or keys.now i 0) left) (live (map (λ b. b.items) blocks.now)))) }
+    ensures others { (x y : ℕ) → x < width → y < width → x ≢ left → y ≢ left → amount saved.new width x y ≡ amount saved.old width x y }
+{
+    for key in keys {
+        let row = (*key).min(left);
+        let column = (*key).max(left);
+        let saving = pair_saving(alloc, costs, blocks, row, column)?;
+        put_amount(saved, width, row, column, saving);
+    }
+    Ok(())
+}
+
+/// One merge, with the rows after it.
+fn one_turn(
+    alloc: Global,
+    costs: &Costs,
+    blocks: &mut Vec<Vec<u32>>,
+    keys: &mut Vec<usize>,
+    fuses: &mut [bool],
+    reaches: &mut [bool],
+    saved: &mut [u64],
+    width: usize,
+    left: usize,
+    right: usize,
+) -> Result<(), NoMemory>
+    requires left_in { left < width }
+    requires right_in { right < width }
+    requires apart { left ≢ right }
+    requires some { 0 < left }
+    requires left_block { IsTrue (not_empty (row_at (map (λ b. b.items) blocks.old.items) left)) }
+    requires right_block { IsTrue (not_empty (row_at (map (λ b. b.items) blocks.old.items) right)) }
+    requires key { least_of (union (numbered costs.now) (row_at (map (λ b. b.items) blocks.old.items) left) (row_at (map (λ b. b.items) blocks.old.items) right)) ≡ left }
+    requires keyed { Keyed (map (λ b. b.items) blocks.old.items) }
+    requires blocks_in { length blocks.old.items ≡ width }
+    requires keys_in { All (λ k. k < width) keys.old.items }
+    requires fuses_size { length fuses.old ≡ width * width }
+    requires reaches_size { length reaches.old ≡ width * width }
+    requires saved_size { length saved.old ≡ width * width }
+    ensures blocks { IfOk result (λ done. live (map (λ b. b.items) blocks.new.items) ≡ merge (numbered costs.now) (block_at left (live (map (λ b. b.items) blocks.old.items))) (block_at right (live (map (λ b. b.items) blocks.old.items))) (live (map (λ b. b.items) blocks.old.items))) }
+    ensures blocks_in { IfOk result (λ done. length blocks.new.items ≡ width) }
+    ensures keyed { IfOk result (λ done. Keyed (map (λ b. b.items) blocks.new.items)) }
+    ensures keys { IfOk result (λ done. keys.new.items ≡ filter (λ k. not (k == right)) keys.old.items) }
+    ensures keys_in { IfOk result (λ done. All (λ k. k < width) keys.new.items) }
+    ensures fuses_size { length fuses.new ≡ width * width }
+    ensures reaches_size { length reaches.new ≡ width * width }
+    ensures saved_size { IfOk result (λ done. length saved.new ≡ width * width) }
+    ensures fuses { (x y : ℕ) → x < width → y < width → flag fuses.new width x y ≡ fuses_after (flag fuses.old width) left right x y }
+    ensures reaches { (x y : ℕ) → x < width → y < width → x ≢ right → flag reaches.new width x y ≡ reach_after (λ k. k) (flag reaches.old width) left right x y }
+    ensures priced { IfOk result (λ done. (i : ℕ) → i < length keys.new.items → amount saved.new width (min (get_or keys.new.items i 0) left) (max (get_or keys.new.items i 0) left) ≡ saving costs.now (block_at (min (get_or keys.new.items i 0) left) (live (map (λ b. b.items) blocks.new.items)), block_at (max (get_or keys.new.items i 0) left) (live (map (λ b. b.items) blocks.new.items)))) }
+    ensures others { IfOk result (λ done. (x y : ℕ) → x < width → y < width → x ≢ left → y ≢ left → amount saved.new width x y ≡ amount saved.old width x y) }
+{
+    fuse_rows(fuses, width, left, right);
+    reach_rows(reaches, width, left, right);
+    join(alloc, costs, blocks, left, right)?;
+    drop_key(keys, right);
+    price_row(
+        alloc,
+        costs,
+        blocks.as_slice(),
+        keys.as_slice(),
+        saved,
+        width,
+        left,
+    )?;
+    Ok(())
+}
+
+/// The merges of greedy, at most a count of them.
+pub(crate) fn merge_all(
+    alloc: Global,
+    costs: &Costs,
+    blocks: &mut Vec<Vec<u32>>,
+    keys: &mut Vec<usize>,
+    fuses: &mut [bool],
+    reaches: &mut [bool],
+    saved: &mut [u64],
+    width: usize,
+    count: usize,
+) -> Result<(), NoMemory>
+    requires keyed { Keyed (map (λ b. b.items) blocks.old.items) }
+    requires blocks_in { length blocks.old.items ≡ width }
+    requires keys_in { All (λ k. k < width) keys.old.items }
+    requires fuses_size { length fuses.old ≡ width * width }
+    requires reaches_size { length reaches.old ≡ width * width }
+    requires saved_size { length saved.old ≡ width * width }
+    requires keys { keys.old.items ≡ map least_of (live (map (λ b. b.items) blocks.old.items)) }
+    requires told { Told costs.now (live (map (λ b. b.items) blocks.old.items)) (flag fuses.old width) (flag reaches.old width) (amount saved.old width) }
+    ensures { IfOk result (λ done. live (map (λ b. b.items) blocks.new.items) ≡ greedy_within count costs.now (live (map (λ b. b.items) blocks.old.items))) }
+{
+    for turn in 0..count {
+        match next_pair(keys.as_slice(), fuses, reaches, saved, width) {
+            None => return Ok(()),
+            Some((left, right)) => one_turn(
+                alloc, costs, blocks, keys, fuses, reaches, saved, width, left, right,
+            )?,
+        }
+    }
+    Ok(())
+}

@@ -1,0 +1,114 @@
+//! The plan of greedy.
+ghost use Rattle.std.specs.Prelude.{◌≡◌, ◌≤◌, ◌<◌, ◌+◌, ◌++◌, ◌∷◌, [], ℕ, IfOk, cond, length, map};
+ghost use Rattle.std.specs.List.{All, range_with_len};
+ghost use Rattle.arr_ops.specs.Plans.{not_empty};
+ghost use Rattle.arr_heur.specs.Planners.{greedy_blocks, greedy_plan};
+ghost use Rattle.arr_greedy.specs.Blocks.{live};
+
+use crate::NoMemory;
+use crate::merging::merge_all;
+use crate::start::fill_rows;
+use crate::tables::{dep_table, fuse_table, saved_table};
+use arr_cost::Costs;
+use arr_deps::Graph;
+use arr_heur::ordered;
+use arr_ops::Plan;
+use std::alloc::Global;
+
+fn one_row(alloc: Global, number: u32) -> Result<Vec<u32>, NoMemory>
+    ensures { IfOk result (λ row. row.items ≡ number ∷ []) }
+{
+    let mut row = Vec::new(alloc);
+    row.push(number)?;
+    Ok(row)
+}
+
+/// The block of one operation at each number, and none at 0.
+fn single_rows(alloc: Global, count: usize) -> Result<Vec<Vec<u32>>, NoMemory>
+    requires { count ≤ 256 }
+    ensures { IfOk result (λ rows. map (λ b. b.items) rows.items ≡ [] ∷ map (λ i. i ∷ []) (range_with_len 1 count)) }
+{
+    let mut rows = Vec::new(alloc);
+    rows.push(Vec::new(alloc))?;
+    for place in 0..count {
+        rows.push(one_row(alloc, place as u32 + 1)?)?;
+    }
+    Ok(rows)
+}
+
+/// The numbers from 1 on.
+fn all_numbers(alloc: Global, count: usize) -> Result<Vec<usize>, NoMemory>
+    requires { count ≤ 256 }
+    ensures value { IfOk result (λ numbers. numbers.items ≡ range_with_len 1 count) }
+    ensures below { IfOk result (λ numbers. All (λ k. k < count + 1) numbers.items) }
+{
+    let mut numbers = Vec::new(alloc);
+    for place in 0..count {
+        numbers.push(place + 1)?;
+    }
+    Ok(numbers)
+}
+
+fn push_live(kept: &mut Vec<Vec<u32>>, alloc: Global, row: &[u32]) -> Result<(), NoMemory>
+    ensures { IfOk result (λ done. map (λ b. b.items) kept.new.items ≡ map (λ b. b.items) kept.old.items ++ cond (not_empty row.now) (row.now ∷ []) []) }
+{
+    if row.is_empty() {
+        return Ok(());
+    }
+    kept.push(row.to_vec(alloc)?)?;
+    Ok(())
+}
+
+/// The blocks, without the places where none stands.
+fn live_rows(alloc: Global, rows: &[Vec<u32>]) -> Result<Vec<Vec<u32>>, NoMemory>
+    ensures { IfOk result (λ kept. map (λ b. b.items) kept.items ≡ live (map (λ b. b.items) rows.now)) }
+{
+    let mut kept = Vec::new(alloc);
+    for row in rows {
+        push_live(&mut kept, alloc, row.as_slice())?;
+    }
+    Ok(kept)
+}
+
+/// The blocks of greedy, each two merged as long as that is possible.
+fn merged(alloc: Global, graph: &Graph, costs: &Costs) -> Result<Vec<Vec<u32>>, NoMemory>
+    requires { costs.now ≡ graph.now }
+    ensures { IfOk result (λ blocks. map (λ b. b.items) blocks.items ≡ greedy_blocks graph.now) }
+{
+    let count = graph.len() as usize;
+    let width = count + 1;
+    let mut fuses = fuse_table(alloc, graph, width)?;
+    let deps = dep_table(alloc, graph, width)?;
+    let mut reaches = vec![in alloc; false; width * width]?;
+    fill_rows(deps.as_slice(), reaches.as_mut_slice(), width);
+    let mut saved = saved_table(alloc, costs, width)?;
+    let mut blocks = single_rows(alloc, count)?;
+    let mut keys = all_numbers(alloc, count)?;
+    merge_all(
+        alloc,
+        costs,
+        &mut blocks,
+        &mut keys,
+        fuses.as_mut_slice(),
+        reaches.as_mut_slice(),
+        saved.as_mut_slice(),
+        width,
+        count,
+    )?;
+    let left = live_rows(alloc, blocks.as_slice())?;
+    Ok(left)
+}
+
+/// The plan that begins with one block an operation and merges the two that save most, as long as the partition has an order
+/// (docs/PLANS.md, "Planners"). The costs are those of the graph's list. Want of memory is its one refusal.
+pub fn greedy(alloc: Global, graph: &Graph, costs: &Costs) -> Result<Plan, NoMemory>
+    requires { costs.now ≡ graph.now }
+    ensures { IfOk result (λ plan. plan ≡ greedy_plan graph.now) }
+{
+    let blocks = merged(alloc, graph, costs)?;
+    let plan = ordered(alloc, graph, blocks.as_slice())?;
+    match plan {
+        Some(plan) => Ok(plan),
+        None => unreachable!(),
+    }
+}
