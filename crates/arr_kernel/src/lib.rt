@@ -18,6 +18,6 @@ mod native;
 mod powers;
 
 pub use element_wise::apply;
-pub use folds::{combine, step_i32, step_i64, step_u64, step_u8};
-pub use native::{value_i32, value_i64, value_u64, value_u8};
-pub use powers::{power_i32, power_i64, power_u64, power_u8};
+pub use folds::{combine, step_i32, step_i64, step_u8, step_u64};
+pub use native::{value_i32, value_i64, value_u8, value_u64};
+pub use powers::{power_i32, power_i64, power_u8, power_u64};
