@@ -1,8 +1,8 @@
 -- One block an operation: what its tables tell.
-use Rattle.std.proofs.Common.{◌≡◌, ℕ, zero, suc, ◌+◌, ◌<◌, ◌≤◌, min, max, List, [], ◌∷◌, ◌++◌, Bool, true, false, not, ◌&&◌, ◌||◌, length, map, inl, inr, ◌⊎◌, refl, ap, ap₂, sym, subst, ◌∙◌, arith}
-use Rattle.std.specs.Prelude.{◌==◌, nat_lt, nat_eq}
-use Rattle.std.specs.List.{All, list_any, range_with_len}
-use Rattle.std.proofs.lemmas.Bool.{and_parts, and_from, or_cases, or_left, or_right, eqb-true, eq-eqb, ne_eqb, false≢true, lt-ltb, le-ltb, cases_eq, cases_lt}
+use Rattle.std.proofs.Common.{◌≡◌, ℕ, zero, suc, ◌+◌, ◌<◌, ◌≤◌, min, max, List, [], ◌∷◌, Bool, true, false, not, ◌&&◌, ◌||◌, length, inl, inr, ◌⊎◌, refl, ap, ap₂, sym, ◌∙◌, arith}
+use Rattle.std.specs.Prelude.{◌==◌, nat_lt}
+use Rattle.std.specs.List.{list_any, range_with_len}
+use Rattle.std.proofs.lemmas.Bool.{or_cases, or_right, eqb-true, eq-eqb, ne_eqb, false≢true, lt-ltb, le-ltb, cases_eq, cases_lt}
 use Rattle.std.proofs.lemmas.List.Elements.{All-cons, All-nil}
 use Rattle.std.proofs.lemmas.List.Folds.{list_any-append}
 use Rattle.arr_view.specs.Views.{has}
@@ -11,10 +11,10 @@ use Rattle.arr_ops.specs.Ops.{dep, fusible}
 use Rattle.arr_ops.specs.Formed.{all_pairs}
 use Rattle.arr_ops.specs.Plans.{numbered, ops_of}
 use Rattle.arr_ops.specs.Order.{leads}
-use Rattle.arr_ops.proofs.Pairs.{Pairs, Pairs_both, Pairs_weaker}
+use Rattle.arr_ops.proofs.Pairs.{Pairs_both, Pairs_weaker}
 use Rattle.arr_ops.proofs.Legality.{Share, fusible_parts, fusible_whole}
 use Rattle.arr_deps.specs.Graph.{leads_to, op_at}
-use Rattle.arr_heur.specs.Planners.{numbers, saving, union}
+use Rattle.arr_heur.specs.Planners.{saving, union}
 use Rattle.arr_heur.proofs.Merge.{has_union, union_has}
 use Rattle.arr_heur.proofs.OrderedBlocks.{Told, all_told, pairs_at, leads_is}
 use Rattle.arr_heur.proofs.Stretches.{range_more}

@@ -1,16 +1,15 @@
 -- The pair that is merged next, where blocks stand at their least numbers.
-use Rattle.std.proofs.Common.{◌≡◌, ◌≢◌, ℕ, ◌<◌, ◌≤◌, List, Bool, true, length, map, Some, ap, ap₂, sym, subst, ◌∙◌, arith}
+use Rattle.std.proofs.Common.{◌≡◌, ◌≢◌, ℕ, ◌<◌, List, Bool, true, length, map, Some, ap, ap₂, sym, ◌∙◌, arith}
 use Rattle.std.specs.Prelude.{nat_lt, ◌&&◌}
 use Rattle.std.proofs.lemmas.Bool.{and_parts, ltb-true}
-use Rattle.arr_view.specs.Views.{has}
 use Rattle.arr_ops.specs.declared.op.Op.{Op}
 use Rattle.arr_ops.specs.Plans.{not_empty, numbered}
-use Rattle.arr_ops.specs.Order.{In, least_of}
+use Rattle.arr_ops.specs.Order.{least_of}
 use Rattle.arr_ops.proofs.Members.{all_in, has_least}
-use Rattle.arr_ops.proofs.Legality.{IsPartition, distinct_of}
+use Rattle.arr_ops.proofs.Legality.{distinct_of}
 use Rattle.arr_heur.specs.Planners.{union}
 use Rattle.arr_greedy.specs.Blocks.{live, row_at, Keyed}
-use Rattle.arr_greedy.specs.Fast.{block_at, next_pair}
+use Rattle.arr_greedy.specs.Fast.{next_pair}
 use Rattle.arr_greedy.proofs.Fast.{Kept, turn}
 use Rattle.arr_greedy.proofs.BlockMerges.{joined}
 use Rattle.arr_greedy.proofs.Turns.{block_found}

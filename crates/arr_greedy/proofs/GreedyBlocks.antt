@@ -1,14 +1,14 @@
 -- Greedy's blocks at the beginning and at the end.
-use Rattle.std.proofs.Common.{◌≡◌, ℕ, zero, suc, ◌+◌, ◌*◌, ◌<◌, ◌≤◌, List, [], ◌∷◌, ◌++◌, Bool, true, false, cond, not, ◌&&◌, ◌||◌, Option, Some, None, length, map, get_or, replicate, inl, inr, refl, ap, ap₂, sym, subst, ◌∙◌, arith}
-use Rattle.std.specs.Prelude.{◌==◌, nat_lt, nat_eq}
-use Rattle.std.specs.List.{All, AllByRecursion, enumerate_from, filter, range_with_len}
+use Rattle.std.proofs.Common.{◌≡◌, ℕ, zero, suc, ◌+◌, ◌<◌, ◌≤◌, List, [], ◌∷◌, ◌++◌, Bool, true, false, cond, not, ◌&&◌, ◌||◌, Some, None, length, map, get_or, replicate, inl, inr, refl, ap, ap₂, sym, ◌∙◌, arith}
+use Rattle.std.specs.Prelude.{nat_eq}
+use Rattle.std.specs.List.{All, filter, range_with_len}
 use Rattle.std.proofs.lemmas.Bool.{lt-ltb, eq-eqb, false≢true}
 use Rattle.std.proofs.lemmas.List.Elements.{All-from_recursion}
 use Rattle.arr_view.specs.Views.{has}
 use Rattle.arr_ops.specs.declared.op.Op.{Op}
 use Rattle.arr_ops.specs.Plans.{ascends, not_empty, numbered}
 use Rattle.arr_ops.specs.Order.{In, least_of, same_block}
-use Rattle.arr_ops.proofs.Members.{all_in, in_all, in_filter}
+use Rattle.arr_ops.proofs.Members.{in_all, in_filter}
 use Rattle.arr_ops.proofs.Legality.{any_there}
 use Rattle.arr_heur.specs.Planners.{greedy_blocks, greedy_within, heaviest, merge, mergeable, numbers, saving, singles, union}
 use Rattle.arr_heur.proofs.Merge.{in_map}

@@ -1,6 +1,6 @@
 -- Blocks that stand at their least numbers.
-use Rattle.std.proofs.Common.{◌≡◌, ◌≢◌, ℕ, zero, suc, ◌+◌, ◌-◌, ◌<◌, ◌≤◌, List, [], ◌∷◌, ◌++◌, Bool, true, false, cond, not, ◌&&◌, ◌||◌, length, map, get_or, set, inl, inr, refl, ap, ap₂, sym, subst, ◌∙◌, arith}
-use Rattle.std.specs.Prelude.{◌==◌, nat_eq}
+use Rattle.std.proofs.Common.{◌≡◌, ◌≢◌, ℕ, zero, suc, ◌+◌, ◌<◌, List, [], ◌∷◌, ◌++◌, Bool, true, false, cond, not, ◌||◌, length, map, set, inl, inr, refl, ap, ap₂, sym, ◌∙◌, arith}
+use Rattle.std.specs.Prelude.{◌==◌}
 use Rattle.std.specs.List.{filter, range_with_len, enumerate_from}
 use Rattle.std.proofs.lemmas.Bool.{false≢true, eq-eqb, ne_eqb, eqb-true, cases_eq}
 use Rattle.std.proofs.lemmas.List.{get_or-set_same, get_or-set_other, length-set}
@@ -8,7 +8,7 @@ use Rattle.arr_view.specs.Views.{has}
 use Rattle.arr_ops.specs.declared.op.Op.{Op}
 use Rattle.arr_ops.specs.Costs.{block_cost, ext, total, weight}
 use Rattle.arr_ops.specs.Plans.{not_empty, numbered}
-use Rattle.arr_ops.specs.Order.{In, least_of, same_block}
+use Rattle.arr_ops.specs.Order.{least_of, same_block}
 use Rattle.arr_heur.specs.Planners.{merge, numbers, saving, union}
 use Rattle.arr_heur.proofs.Saves.{union_ops}
 use Rattle.arr_greedy.specs.Blocks.{live, row_at, Keyed}

@@ -1,5 +1,5 @@
 -- The tables of one block an operation.
-use Rattle.std.specs.Prelude.{ℕ, nat_lt, ◌==◌, ◌-◌, List, [], ◌∷◌, Bool, true, false, not, ◌||◌, ◌&&◌, cond, min, max, length}
+use Rattle.std.specs.Prelude.{ℕ, nat_lt, ◌==◌, List, Bool, not, ◌&&◌, min, max}
 use Rattle.arr_ops.specs.declared.op.Op.{Op}
 use Rattle.arr_ops.specs.Ops.{fusible}
 use Rattle.arr_deps.specs.Graph.{leads_to, op_at}

@@ -1,5 +1,5 @@
 -- Ways in a graph, node after node, each leading the next.
-use Rattle.std.specs.Prelude.{ℕ, ◌≡◌, List, [], ◌∷◌, Bool, true, false, ◌||◌, ◌&&◌, not, cond, ◌==◌, ◌⊎◌}
+use Rattle.std.specs.Prelude.{ℕ, ◌≡◌, List, [], ◌∷◌, Bool, true, false, ◌||◌, ◌&&◌, not, cond, ◌==◌}
 
 module _ {N : Type 0} (key : N → ℕ) (leading : N → N → Bool) where
   abbrev pub Leads : (N → Type 0) → N → N → Type 0

@@ -1,11 +1,8 @@
 use Rattle.std.proofs.Common.{◌≡◌, ◌<◌, ◌∙◌, [], Vec, Global, ℕ, List, length, map, set, ap, ap₂, sym, subst, arith}
 use Rattle.std.proofs.lemmas.List.{length-map, map-set}
-use Rattle.arr_ops.specs.declared.op.Op.{Op}
 use Rattle.arr_ops.specs.Plans.{numbered}
-use Rattle.arr_heur.specs.Planners.{merge, union}
-use Rattle.arr_view.specs.Views.{has}
+use Rattle.arr_heur.specs.Planners.{union}
 use Rattle.arr_greedy.specs.Blocks.{live, row_at, Keyed}
-use Rattle.arr_greedy.specs.Fast.{block_at}
 use Rattle.arr_greedy.proofs.KeyedBlocks.{Joined, joined_rows, union_is}
 use Rattle.arr_greedy.proofs.merging.join.Goals as goal
 

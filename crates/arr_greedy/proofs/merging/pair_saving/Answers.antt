@@ -1,7 +1,6 @@
-use Rattle.std.proofs.Common.{◌≡◌, ◌<◌, ◌∙◌, Vec, Global, ℕ, List, length, map, ap, ap₂, sym, arith}
+use Rattle.std.proofs.Common.{◌≡◌, ◌<◌, ◌∙◌, Vec, Global, ℕ, List, length, map, ap₂, sym, arith}
 use Rattle.std.proofs.lemmas.List.{length-map}
 use Rattle.arr_heur.specs.Planners.{saving}
-use Rattle.arr_greedy.specs.Blocks.{row_at}
 use Rattle.arr_greedy.proofs.KeyedBlocks.{block_live, saving_is}
 use Rattle.arr_greedy.proofs.merging.pair_saving.Goals as goal
 

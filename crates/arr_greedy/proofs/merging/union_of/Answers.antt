@@ -1,5 +1,4 @@
-use Rattle.std.proofs.Common.{◌≡◌, ◌∙◌, ◌+◌, ◌||◌, ◌++◌, ◌∷◌, [], ℕ, List, Bool, true, false, cond, refl, ap, ap₂, sym, arith}
-use Rattle.std.specs.List.{filter, range_with_len}
+use Rattle.std.proofs.Common.{◌∙◌, ◌+◌, ◌||◌, ◌++◌, ◌∷◌, [], cond, ap₂, sym}
 use Rattle.arr_view.specs.Views.{has}
 use Rattle.arr_greedy.proofs.Grids.{filter_more}
 use Rattle.arr_greedy.proofs.merging.union_of.Goals as goal

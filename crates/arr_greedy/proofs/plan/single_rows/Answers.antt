@@ -1,4 +1,4 @@
-use Rattle.std.proofs.Common.{◌≡◌, ◌∙◌, ◌+◌, ◌++◌, ◌∷◌, [], Vec, Global, ℕ, List, map, ap, ap₂, sym}
+use Rattle.std.proofs.Common.{◌∙◌, ◌++◌, ◌∷◌, [], Vec, Global, ℕ, List, map, ap, ap₂, sym}
 use Rattle.arr_heur.proofs.Stretches.{items_end}
 use Rattle.arr_greedy.proofs.GreedyBlocks.{one_more_single}
 use Rattle.arr_greedy.proofs.plan.single_rows.Goals as goal

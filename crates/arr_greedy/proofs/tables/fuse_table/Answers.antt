@@ -1,4 +1,4 @@
-use Rattle.std.proofs.Common.{◌≡◌, ◌+◌, ◌*◌, ◌/◌, ◌%◌, ◌≤◌, ◌++◌, ◌∷◌, [], ◌∙◌, ℕ, false, length, ap, arith}
+use Rattle.std.proofs.Common.{◌≡◌, ◌+◌, ◌/◌, ◌%◌, ◌++◌, ◌∷◌, [], false, length, ap, arith}
 use Rattle.std.proofs.lemmas.List.{length-append}
 use Rattle.arr_greedy.specs.Start.{fuses_at}
 use Rattle.arr_greedy.proofs.Grids.{grid_at, pushed_at}
