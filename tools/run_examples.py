@@ -1,5 +1,5 @@
 #!/usr/bin/env python3
-"""Runs the examples and what the documents show, and compares what is written.
+"""Runs the examples, the cases of cases.py and what the documents show, and compares what is written.
 
 examples/NAME.bh is run, and must print examples/NAME.out.
 
@@ -16,9 +16,13 @@ import re
 import subprocess
 import sys
 
+import cases
+
 TOP = os.path.dirname(os.path.dirname(os.path.abspath(__file__)))
 PROGRAM = os.path.join(TOP, "crates", "bohrium", "out", "bohrium")
 PAGES = ["README.md", os.path.join("docs", "LANGUAGE.md")]
+# The refusals that the grammar gives.
+OF_GRAMMAR = {"TooLong", "BadByte", "NumberTooWide", "NameTooLong", "StatementTooLong", "TooDeep", "Unexpected"}
 
 passed = 0
 failed = 0
@@ -35,7 +39,8 @@ def judge(where, wanted, found):
 
 
 def run(script):
-    done = subprocess.run([PROGRAM, "run"], input=script.encode(), capture_output=True, timeout=120)
+    text = script if isinstance(script, bytes) else script.encode()
+    done = subprocess.run([PROGRAM, "run"], input=text, capture_output=True, timeout=120)
     return done.returncode, done.stdout.decode(errors="replace")
 
 
@@ -110,11 +115,54 @@ def judge_examples():
                 judge_script(f"examples/{name}", script.read(), wanted.read())
 
 
+def judge_sentence(text):
+    """A text of the grammar may be refused by the rules of names, types and shapes alone."""
+    status, found = run(text)
+    kind = found.split(" ")[-1].strip()
+    judge(f"cases: {text!r}", True, status == 0 or status == 1 and kind not in OF_GRAMMAR)
+
+
+def one(number, elem):
+    return f"full([1], {number}, {elem})"
+
+
+def applied(sign, left, right):
+    return f"{sign}({left}, {right})" if sign.isalpha() else f"{left} {sign} {right}"
+
+
+def judge_numbers():
+    """The values of the opcodes, one array of one number each."""
+    for elem, (pairs, values) in cases.BINARY.items():
+        for sign, wanted in values.items():
+            to = "u8" if sign[0] in "=!<>" and sign not in ("<<", ">>") else elem
+            script = "".join(f"print {applied(sign, one(x, elem), one(y, elem))}\n" for x, y in pairs)
+            judge_script(f"cases: {elem} {sign}", script, "".join(f"{to} 1\n{z}\n" for z in wanted))
+    for elem, number, wanted in cases.POWERS:
+        script = "".join(f"print {one(number, elem)} ** {exponent}\n" for exponent in cases.EXPONENTS)
+        judge_script(f"cases: {elem} **", script, "".join(f"{elem} 1\n{z}\n" for z in wanted))
+    for elem, number, size, turned in cases.TURNED:
+        script = f"print abs({one(number, elem)})\nprint ~{one(number, elem)}\n"
+        judge_script(f"cases: {elem} abs ~", script, f"{elem} 1\n{size}\n{elem} 1\n{turned}\n")
+    for elem, number, wanted in cases.CONVERTED:
+        kinds = list(zip(("u8", "i32", "i64", "u64"), wanted))
+        script = "".join(f"print {to}({one(number, elem)})\n" for to, _ in kinds)
+        judge_script(f"cases: {elem} converted", script, "".join(f"{to} 1\n{z}\n" for to, z in kinds))
+
+
+def judge_cases():
+    for script, wanted in cases.ARRAYS + cases.REFUSALS + cases.SLICES + cases.TEXTS + cases.LIMITS:
+        judge_script(f"cases: {script[:200]!r}", script, wanted)
+    for text in cases.SENTENCES:
+        judge_sentence(text)
+    judge_numbers()
+
+
 def main():
     if not os.access(PROGRAM, os.X_OK):
         print(f"{PROGRAM} is not built")
         return 1
     judge_examples()
+    judge_cases()
     for page in PAGES:
         judge_page(page)
     print(f"{passed} passed, {failed} failed")

@@ -1,26 +1,10 @@
-//! Tests of the whole project: worked scripts through `serve`, and tables of cases through the public calls of the crates
-//! below. No other crate has tests.
+//! Tests of the whole project, of what no contract says: that want of memory is not answered without cause, by a call of each public
+//! function that takes memory, and how the program meets sources and sinks that fail. No other crate has tests.
 #![tactic(auto)]
 
 #[cfg(test)]
-mod grammar;
-#[cfg(test)]
-mod listing;
-#[cfg(test)]
-mod lists;
-#[cfg(test)]
-mod numbers;
-#[cfg(test)]
-mod overlaps;
+mod calls;
 #[cfg(test)]
 mod program;
 #[cfg(test)]
-mod rewriting;
-#[cfg(test)]
 mod runs;
-#[cfg(test)]
-mod scripts;
-#[cfg(test)]
-mod shapes;
-#[cfg(test)]
-mod views;

@@ -16,29 +16,6 @@ const USAGE: &str =
 
 const SUM: &str = "a = range(5)\nc = a + a\nprint c\n";
 
-#[test]
-fn long_scripts_are_refused_behind_the_limit(rt: HostRuntime) -> Result<(), Fail> {
-    let alloc = rt.alloc();
-    let mut spaces = vec![in alloc; b' '; 1_048_576]?;
-    let whole = run(alloc, &["run"], &spaces, 0, 65_536, 0)?;
-    assert_eq!(rt; whole.status, 0);
-    spaces.push(b' ')?;
-    let ran = run(alloc, &["run"], &spaces, 0, 65_536, 0)?;
-    assert_eq!(rt; ran.status, 1);
-    assert_eq!(rt;
-        ran.written.as_slice(),
-        b"refused 1:1048577 TooLong\n".as_slice()
-    );
-    let lines = vec![in alloc; b'\n'; 1_100_000]?;
-    let ran = run(alloc, &["run"], &lines, 0, 65_536, 0)?;
-    assert_eq!(rt; ran.status, 1);
-    assert_eq!(rt;
-        ran.written.as_slice(),
-        b"refused 1048577:1 TooLong\n".as_slice()
-    );
-    Ok(())
-}
-
 /// Whether words that name no command get the usage line, and status 4 where it can't be written.
 fn are_unknown(rt: &impl Abort, alloc: Global, words: &[&str]) -> Result<(), NoMemory> {
     let ran = run(alloc, words, SUM.as_bytes(), 1, 4096, 0)?;

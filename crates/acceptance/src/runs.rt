@@ -6,19 +6,12 @@ use arr_io::{MemorySink, MemorySource, NoMemory, SureSource};
 use arr_run::serve;
 use arr_store::Store;
 use std::alloc::Global;
-use std::process::Abort;
 
-/// A script, and what the program writes when it runs it.
-pub(crate) type Case = (&'static str, &'static str);
-
-/// What a run answers, and how many bytes it loaded and stored and how many buffers it made.
+/// What a run answers and what it wrote.
 #[derive(Debug, Drop)]
 pub(crate) struct Ran {
     pub(crate) status: u8,
     pub(crate) written: Vec<u8>,
-    pub(crate) loads: u64,
-    pub(crate) stores: u64,
-    pub(crate) made: u64,
 }
 
 /// A source of these bytes, which come `piece` at a time; the call with the number `fails` fails, none where it is 0.
@@ -71,22 +64,5 @@ pub(crate) fn run(
     Ok(Ran {
         status,
         written: bytes,
-        loads: store.loads(),
-        stores: store.stores(),
-        made: store.made(),
     })
-}
-
-/// Whether the program, run with `run` and ample memory, answers this status and these bytes.
-pub(crate) fn answers(
-    rt: &impl Abort,
-    alloc: Global,
-    script: &str,
-    status: u8,
-    text: &str,
-) -> Result<(), NoMemory> {
-    let ran = run(alloc, &["run"], script.as_bytes(), 0, 4096, 0)?;
-    assert_eq!(rt; ran.status, status, "{script}");
-    assert_eq!(rt; ran.written.as_slice(), text.as_bytes(), "{script}");
-    Ok(())
 }

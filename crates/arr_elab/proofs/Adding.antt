@@ -7,7 +7,7 @@ use Rattle.arr_num.specs.Numbers.{in_type}
 use Rattle.arr_view.specs.Strided.{Strided}
 use Rattle.arr_view.specs.Views.{positions, whole_view}
 use Rattle.arr_ops.specs.declared.op.Op.{Op}
-use Rattle.arr_ops.specs.Formed.{same_elem}
+use Rattle.arr_num.specs.Types.{same_elem}
 use Rattle.arr_shape.specs.Shapes.{checked_shape, checked_axis, broadcast}
 use Rattle.arr_shape.specs.Views.{spread, transpose, reshape, strided}
 use Rattle.arr_shape.specs.Slices.{slice}
@@ -29,15 +29,16 @@ use Rattle.arr_elab.specs.declared.step.Step.{Step}
 use Rattle.arr_elab.specs.declared.step.Step.TheVariants.{Act}
 use Rattle.arr_elab.specs.declared.step.Step.TheVariants as step
 use Rattle.arr_elab.specs.State.{State, Reading, Checked, and_then, ◌>>=◌, pure, stands_for, fresh, live, most_live}
-use Rattle.arr_elab.specs.Steps.{acts}
-use Rattle.arr_elab.specs.Codes.{elem_of, binary_code, spelled}
+use Rattle.arr_elab.specs.Steps.{deeds}
+use Rattle.arr_elab.specs.Codes.{elem_of, binary_code}
+use Rattle.arr_syntax.specs.Grammar.{signed}
 use Rattle.arr_elab.specs.Expressions.{onto, pending, seen, settled, array_of, array, written, found, lookup, named, literal, unary, cast, power, joined, binary, fold, range, filled, full, bounds, index, broadcasted, transposed, reshaped, strided_anew}
 use Rattle.arr_elab.proofs.Sound.{needed, by_rule}
 
 -- ---- how many operations a reading adds
 
 abbrev pub count : State → ℕ
-count s = length (acts s.steps)
+count s = deeds s.steps
 
 -- an operation that waits is counted before it is recorded
 abbrev pub waits : Prepared → ℕ
@@ -59,13 +60,15 @@ in_turn (Ok a) f r e = (a, refl, e)
 pub at_once : {X : Type 0} (P : X → ℕ) (n : ℕ) (s : State) (x : X) (r : X × State) → pure x s ≡ Ok r → P x + count s ≤ n → P r.0 + count r.1 ≤ n
 at_once P n s x r e h = let is : (x, s) ≡ r = cc in subst (λ (q : _). P q.0 + count q.1 ≤ n) is h
 
-pub acts_join : (xs ys : List Step) → length (acts (xs ++ ys)) ≡ length (acts xs) + length (acts ys)
-acts_join [] ys = omega arith
-acts_join (Act op ∷ xs) ys = let h = acts_join xs ys in omega arith
-acts_join (step.Name n b ∷ xs) ys = acts_join xs ys
-acts_join (step.Forget n ∷ xs) ys = acts_join xs ys
-acts_join (step.Done ∷ xs) ys = acts_join xs ys
-acts_join (step.Cut ∷ xs) ys = acts_join xs ys
+pub deeds_join : (xs ys : List Step) → deeds (xs ++ ys) ≡ deeds xs + deeds ys
+deeds_join [] ys = omega arith
+deeds_join (Act op ∷ xs) ys = let h = deeds_join xs ys in omega arith
+deeds_join (step.Gather g ∷ xs) ys = let h = deeds_join xs ys in omega arith
+deeds_join (step.Scatter g ∷ xs) ys = let h = deeds_join xs ys in omega arith
+deeds_join (step.Name n b ∷ xs) ys = deeds_join xs ys
+deeds_join (step.Forget n ∷ xs) ys = deeds_join xs ys
+deeds_join (step.Done ∷ xs) ys = deeds_join xs ys
+deeds_join (step.Cut ∷ xs) ys = deeds_join xs ys
 
 -- ---- values and arrays
 
@@ -75,7 +78,7 @@ opened at shape op n s r e h = at_once waits n s (Open (record { at = at; shape 
 looked : (t : Elem) (v : Strided) (n : ℕ) (s : State) (r : Prepared × State) → seen t v s ≡ Ok r → count s ≤ n → waits r.0 + count r.1 ≤ n
 looked t v n s r e h = at_once waits n s (Ready (value.Array (record { view = v; elem = t }))) r e (omega arith)
 
-fresh_adds : (at : Place) (shape : List ℕ) → Adds nothing 0 (fresh at shape)
+pub fresh_adds : (at : Place) (shape : List ℕ) → Adds nothing 0 (fresh at shape)
 unfolding fresh
 fresh_adds at shape s r e = by (nat_lt most_live (live s + positions shape)) e
   where
@@ -94,7 +97,7 @@ unfolding written
 written_adds p s r e =
     let a = in_turn (fresh p.at p.shape s) _ r e in
     let one = fresh_adds p.at p.shape s a.0 a.1 in
-    let more = acts_join a.0.1.steps (Act (onto p.op a.0.0 true) ∷ []) in
+    let more = deeds_join a.0.1.steps (Act (onto p.op a.0.0 true) ∷ []) in
     at_once nothing (count s + 1) (record a.0.1 { steps = a.0.1.steps ++ Act (onto p.op a.0.0 true) ∷ [] }) (record { view = a.0.0; elem = p.op.to }) r a.2 (omega arith)
 
 settled_adds : (x : Prepared) → Adds nothing (waits x) (settled x)
@@ -104,14 +107,14 @@ settled_adds (Open p) s r e =
     let one = written_adds p s a.0 a.1 in
     at_once nothing (count s + 1) a.0.1 (value.Array a.0.0) r a.2 (omega arith)
 
-value_adds : (of : Reading Prepared) (n : ℕ) → Adds waits n of → Adds nothing n (of >>= settled)
+pub value_adds : (of : Reading Prepared) (n : ℕ) → Adds waits n of → Adds nothing n (of >>= settled)
 value_adds of n h s r e =
     let a = in_turn (of s) _ r e in
     let one = h s a.0 a.1 in
     let two = settled_adds a.0.0 a.0.1 r a.2 in
     omega arith
 
-array_of_adds : (v : Value) → Adds nothing 0 (array_of v)
+pub array_of_adds : (v : Value) → Adds nothing 0 (array_of v)
 array_of_adds (value.Literal at number) s r e = absurd (let f : Err (record { at = at; kind = TypeMismatch }) ≡ Ok r = e in cc)
 array_of_adds (value.Array a) s r e = at_once nothing (count s + 0) s a r e (omega arith)
 
@@ -138,7 +141,7 @@ named_adds word s r e =
     looked a.0.0.elem a.0.0.view (count s + 0) a.0.1 r a.2 (omega arith)
 
 pub literal_adds : (at : Place) (negative : Bool) (size : ℕ) → Adds waits 0 (literal at negative size)
-literal_adds at negative size s r e = at_once waits (count s + 0) s (Ready (value.Literal at (spelled negative size))) r e (omega arith)
+literal_adds at negative size s r e = at_once waits (count s + 0) s (Ready (value.Literal at (signed negative size))) r e (omega arith)
 
 pub unary_adds : (at : Place) (c : Code16) (of : Reading Prepared) (n : ℕ) → Adds waits n of → Adds waits (n + 1) (unary at c of)
 unary_adds at c of n h s r e =

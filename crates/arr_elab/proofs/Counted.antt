@@ -6,10 +6,10 @@ use Rattle.arr_num.specs.Numbers.{in_type}
 use Rattle.arr_view.specs.Views.{repeats, same_lists}
 use Rattle.arr_ops.specs.declared.op.Op.{Op}
 use Rattle.arr_ops.specs.declared.op.Operand.TheVariants as operand
-use Rattle.arr_ops.specs.Formed.{same_elem}
+use Rattle.arr_num.specs.Types.{same_elem}
 use Rattle.arr_shape.specs.Views.{spread}
 use Rattle.arr_syntax.specs.declared.refusal.Place.{Place}
-use Rattle.arr_syntax.specs.declared.refusal.Kind.TheVariants.{TypeMismatch, LiteralRange, UnknownName, OutputRepeats, TooManyNames}
+use Rattle.arr_syntax.specs.declared.refusal.Kind.TheVariants.{TypeMismatch, LiteralRange, ShapeMismatch, UnknownName, OutputRepeats, TooManyNames}
 use Rattle.arr_syntax.specs.declared.token.Item.{Item}
 use Rattle.arr_syntax.specs.declared.tree.Word.{Word}
 use Rattle.arr_syntax.specs.declared.tree.Expr.{Expr}
@@ -25,14 +25,14 @@ use Rattle.arr_elab.specs.declared.value.Value.TheVariants as value
 use Rattle.arr_elab.specs.declared.value.Prepared.{Prepared}
 use Rattle.arr_elab.specs.declared.value.Prepared.TheVariants.{Ready, Open}
 use Rattle.arr_elab.specs.declared.step.Step.{Step}
-use Rattle.arr_elab.specs.declared.step.Step.TheVariants.{Act, Name, Forget, Done, Cut}
-use Rattle.arr_elab.specs.State.{State, Reading, Checked, and_then, ◌>>=◌, ◌>>◌, pure, require, act, stands_for, number_of, with_name, most_names, nothing_yet}
-use Rattle.arr_elab.specs.Steps.{acts}
-use Rattle.arr_elab.specs.Expressions.{operation, onto, array, written, taken, found}
-use Rattle.arr_elab.specs.Outcome.{by_form, prepared, assigned, stored, bound, bind, forget, effect, begin, statement, statements, outcome}
+use Rattle.arr_elab.specs.declared.step.Step.TheVariants.{Act, Gather, Scatter, Name, Forget, Done, Cut}
+use Rattle.arr_elab.specs.State.{State, Reading, Checked, and_then, ◌>>=◌, ◌>>◌, pure, require, act, fresh, stands_for, number_of, with_name, most_names, nothing_yet}
+use Rattle.arr_elab.specs.Steps.{deeds}
+use Rattle.arr_elab.specs.Expressions.{operation, onto, settled, array_of, array, written, taken, found}
+use Rattle.arr_elab.specs.Outcome.{by_form, prepared, assigned, stored, bound, bind, forget, gather_arrays, scatter_arrays, effect, begin, statement, statements, outcome}
 use Rattle.arr_elab.proofs.Sound.{needed, by_rule}
 use Rattle.arr_elab.proofs.Weighed.{weight_of, weight_form, weight, form_weight, script_weight, script_short}
-use Rattle.arr_elab.proofs.Adding.{count, waits, nothing, Adds, in_turn, at_once, acts_join, written_adds, array_adds, named_adds, literal_adds, unary_adds, cast_adds, power_adds, fold_adds, binary_adds, range_adds, full_adds, index_adds, broadcasted_adds, transposed_adds, reshaped_adds, strided_adds}
+use Rattle.arr_elab.proofs.Adding.{count, waits, nothing, Adds, in_turn, at_once, deeds_join, fresh_adds, written_adds, value_adds, array_of_adds, array_adds, named_adds, literal_adds, unary_adds, cast_adds, power_adds, fold_adds, binary_adds, range_adds, full_adds, index_adds, broadcasted_adds, transposed_adds, reshaped_adds, strided_adds}
 
 -- ---- expressions
 
@@ -84,10 +84,10 @@ prepared_adds = ind-Expr FormAdds ExprAdds
 -- ---- targets
 
 -- after one more step
-stepped : (new : Step) (s t : State) (n : ℕ) (r : Unit {0} × State) → t.steps ≡ s.steps ++ new ∷ [] → pure tt t ≡ Ok r → count s + length (acts (new ∷ [])) ≤ n → 0 + count r.1 ≤ n
+stepped : (new : Step) (s t : State) (n : ℕ) (r : Unit {0} × State) → t.steps ≡ s.steps ++ new ∷ [] → pure tt t ≡ Ok r → count s + deeds (new ∷ []) ≤ n → 0 + count r.1 ≤ n
 stepped new s t n r e f h =
-    let more = acts_join s.steps (new ∷ []) in
-    let same : count t ≡ length (acts (s.steps ++ new ∷ [])) = ap (λ xs. length (acts xs)) e in
+    let more = deeds_join s.steps (new ∷ []) in
+    let same : count t ≡ deeds (s.steps ++ new ∷ []) = ap (λ xs. deeds xs) e in
     at_once nothing n t tt r f (omega arith)
 
 act_adds : (op : Op) → Adds nothing 1 (act op)
@@ -151,6 +151,24 @@ forget_adds word s r e = by (stands_for s.names word.text) e
     by None e = absurd (let g : Err (record { at = word.at; kind = UnknownName }) ≡ Ok r = e in cc)
     by (Some a) e = stepped (Forget (number_of s.names word.text)) s _ (count s + 0) r refl e (omega arith)
 
+-- ---- gathers and scatters
+
+gather_adds : (word : Word) (at : Place) (source index : Array) → Adds nothing 1 (gather_arrays word at source index)
+gather_adds word at source index s r e =
+    let out = in_turn (fresh at index.view.lengths s) _ r e in
+    let one = fresh_adds at index.view.lengths s out.0 out.1 in
+    let new : Step = Gather (record { out = out.0.0; source = source.view; index = index.view; to = source.elem; of = index.elem }) in
+    let more = deeds_join out.0.1.steps (new ∷ []) in
+    let two = bind_adds word (record { view = out.0.0; elem = source.elem }) (record out.0.1 { steps = out.0.1.steps ++ new ∷ [] }) r out.2 in
+    omega arith
+
+scatter_adds : (at : Place) (target index values : Array) → Adds nothing 1 (scatter_arrays at target index values)
+scatter_adds at target index values s r e =
+    let types = needed (same_elem target.elem values.elem) at TypeMismatch s _ r e in
+    let shapes = needed (same_lists index.view.lengths values.view.lengths) at ShapeMismatch s _ r types.1 in
+    let once = needed (not (repeats target.view)) at OutputRepeats s _ r shapes.1 in
+    stepped (Scatter (record { target = target.view; index = index.view; values = values.view; to = target.elem; of = index.elem })) s _ (count s + 1) r refl once.1 (omega arith)
+
 -- ---- statements
 
 effect_adds : (f : Form) → Adds nothing (form_weight f) (effect f)
@@ -173,6 +191,32 @@ effect_adds (form.Assign target equals x) s r e =
     let two = prepared_adds x a.0.1 p.0 p.1 in
     let last = stored_adds a.0.0 equals p.0.0 p.0.1 r p.2 in
     omega arith
+effect_adds (form.Gather word at source index) s r e =
+    let x = in_turn ((prepared source >>= settled) s) _ r e in
+    let one = value_adds (prepared source) (weight source) (prepared_adds source) s x.0 x.1 in
+    let y = in_turn ((prepared index >>= settled) x.0.1) _ r x.2 in
+    let two = value_adds (prepared index) (weight index) (prepared_adds index) x.0.1 y.0 y.1 in
+    let a = in_turn (array_of x.0.0 y.0.1) _ r y.2 in
+    let three = array_of_adds x.0.0 y.0.1 a.0 a.1 in
+    let b = in_turn (array_of y.0.0 a.0.1) _ r a.2 in
+    let four = array_of_adds y.0.0 a.0.1 b.0 b.1 in
+    let last = gather_adds word at a.0.0 b.0.0 b.0.1 r b.2 in
+    omega arith
+effect_adds (form.Scatter at target index values) s r e =
+    let x = in_turn ((prepared target >>= settled) s) _ r e in
+    let one = value_adds (prepared target) (weight target) (prepared_adds target) s x.0 x.1 in
+    let y = in_turn ((prepared index >>= settled) x.0.1) _ r x.2 in
+    let two = value_adds (prepared index) (weight index) (prepared_adds index) x.0.1 y.0 y.1 in
+    let z = in_turn ((prepared values >>= settled) y.0.1) _ r y.2 in
+    let three = value_adds (prepared values) (weight values) (prepared_adds values) y.0.1 z.0 z.1 in
+    let a = in_turn (array_of x.0.0 z.0.1) _ r z.2 in
+    let four = array_of_adds x.0.0 z.0.1 a.0 a.1 in
+    let b = in_turn (array_of y.0.0 a.0.1) _ r a.2 in
+    let five = array_of_adds y.0.0 a.0.1 b.0 b.1 in
+    let c = in_turn (array_of z.0.0 b.0.1) _ r b.2 in
+    let six = array_of_adds z.0.0 b.0.1 c.0 c.1 in
+    let last = scatter_adds at a.0.0 b.0.0 c.0.0 c.0.1 r c.2 in
+    omega arith
 
 statement_adds : (x : Statement) → Adds nothing (form_weight x.form) (statement x)
 statement_adds x s r e =
@@ -192,15 +236,15 @@ statements_add (x ∷ xs) s r e =
 abbrev steps_of : Unit {0} × State → Checked (List Step)
 steps_of done = Ok done.1.steps
 
-by_state : (o : Checked (Unit {0} × State)) (steps : List Step) (n : ℕ) → and_then o steps_of ≡ Ok steps → ((r : Unit {0} × State) → o ≡ Ok r → 0 + count r.1 ≤ 0 + n) → length (acts steps) ≤ n
+by_state : (o : Checked (Unit {0} × State)) (steps : List Step) (n : ℕ) → and_then o steps_of ≡ Ok steps → ((r : Unit {0} × State) → o ≡ Ok r → 0 + count r.1 ≤ 0 + n) → deeds steps ≤ n
 by_state (Err x) steps n e h = absurd (let f : and_then (Err x) steps_of ≡ Ok steps = e in cc)
 by_state (Ok r) steps n e h =
     let few = h r refl in
     let is : r.1.steps ≡ steps = (let f : steps_of r ≡ Ok steps = e in cc) in
-    subst (λ xs. length (acts xs) ≤ n) is (omega arith)
+    subst (λ xs. deeds xs ≤ n) is (omega arith)
 
-pub few_acts : (items : List Item) (ss : List Statement) (steps : List Step) → Script items ss → outcome ss ≡ Ok steps → length (acts steps) ≤ length items
-few_acts items ss steps script e =
+pub few_deeds : (items : List Item) (ss : List Statement) (steps : List Step) → Script items ss → outcome ss ≡ Ok steps → deeds steps ≤ length items
+few_deeds items ss steps script e =
     let few = by_state (statements ss nothing_yet) steps (script_weight ss) e (λ r f. statements_add ss nothing_yet r f) in
     let short = script_short items ss script in
     omega arith

@@ -9,7 +9,7 @@ use Rattle.arr_num.specs.Numbers.{in_type}
 use Rattle.arr_view.specs.Strided.{Strided}
 use Rattle.arr_ops.specs.declared.op.Op.{Op}
 use Rattle.arr_ops.specs.declared.op.Operand.TheVariants as operand
-use Rattle.arr_ops.specs.Formed.{same_elem}
+use Rattle.arr_num.specs.Types.{same_elem, same_elem_is}
 use Rattle.arr_shape.specs.declared.fault.ShapeFault.TheVariants.{AxisRange}
 use Rattle.arr_shape.specs.Shapes.{is_shape, checked_shape, checked_axis, broadcast}
 use Rattle.arr_shape.specs.Views.{spread, transpose, reshape, strided}
@@ -27,12 +27,13 @@ use Rattle.arr_elab.specs.declared.value.Value.TheVariants as value
 use Rattle.arr_elab.specs.declared.value.Prepared.{Prepared}
 use Rattle.arr_elab.specs.declared.value.Prepared.TheVariants.{Ready, Open}
 use Rattle.arr_elab.specs.State.{State, Reading, ◌>>=◌}
-use Rattle.arr_elab.specs.Codes.{elem_of, binary_code, spelled}
+use Rattle.arr_elab.specs.Codes.{elem_of, binary_code}
+use Rattle.arr_syntax.specs.Grammar.{signed}
 use Rattle.arr_elab.specs.Expressions.{pending, seen, settled, array, lookup, named, literal, unary, cast, power, joined, binary, fold, range, filled, full, bounds, index, broadcasted, transposed, reshaped, strided_anew}
 use Rattle.arr_elab.specs.Recording.{Scene, length_of}
 use Rattle.arr_elab.proofs.Derived.{not_true, Lies, is_below, ok_if, derived_spread, derived_turned, derived_reshaped, lies_strided}
 use Rattle.arr_elab.proofs.Sliced.{derived_slice}
-use Rattle.arr_elab.proofs.Scenes.{Stands, stands_derived, stands_lying, elem_same}
+use Rattle.arr_elab.proofs.Scenes.{Stands, stands_derived, stands_lying}
 use Rattle.arr_elab.proofs.Keeping.{Keeps}
 use Rattle.arr_elab.proofs.Shaped.{view_shape, checked_is, line_shape, broadcast_shape}
 use Rattle.arr_elab.proofs.Waiting.{Pends, pends_copy, pends_unary, pends_power, pends_fold, pends_number, pends_range, pends_pair, number, view}
@@ -50,7 +51,7 @@ pub named_sound : (word : Word) → Sound IsPrepared (named word)
 named_sound word scene s r k e = in_turn IsArray IsPrepared scene (lookup word s) _ r e (λ a f. lookup_sound word scene s a k f) (λ a next g j i e. looked a.0.elem a.0.view next a.1 r j i e)
 
 pub literal_sound : (at : Place) (negative : Bool) (size : ℕ) → Sound IsPrepared (literal at negative size)
-literal_sound at negative size scene s r k e = at_once IsPrepared scene s (Ready (value.Literal at (spelled negative size))) r k tt e
+literal_sound at negative size scene s r k e = at_once IsPrepared scene s (Ready (value.Literal at (signed negative size))) r k tt e
 
 -- ---- operators
 
@@ -92,7 +93,7 @@ joined_reads at c (value.Array a) (value.Array b) scene s r k h i e =
     let good = broadcast_shape a.view.lengths b.view.lengths shape.0 (view_shape a.view h.placed.lawful) (view_shape b.view i.placed.lawful) shape.1 in
     let left = derived_spread a.view shape.0 x.0 h.placed.lawful good x.1 in
     let right = derived_spread b.view shape.0 y.0 i.placed.lawful good y.1 in
-    let other = subst (λ t. Stands scene t y.0) (sym (elem_same a.elem b.elem types.0)) (stands_derived scene b.elem b.view y.0 i right.0) in
+    let other = subst (λ t. Stands scene t y.0) (sym (same_elem_is a.elem b.elem types.0)) (stands_derived scene b.elem b.view y.0 i right.0) in
     opened at _ _ scene s r k (pends_pair scene a.elem shape.0 c (operand.Array x.0) (operand.Array y.0) good (view (stands_derived scene a.elem a.view x.0 h left.0) left.1) (view other right.1)) y.2
 
 pub binary_sound : (at : Place) (c : Code16) (left right : Reading Prepared) → Sound IsPrepared left → Sound IsPrepared right → Sound IsPrepared (binary at c left right)

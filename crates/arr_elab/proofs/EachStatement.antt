@@ -1,19 +1,25 @@
 -- Every statement keeps a scene.
-use Rattle.std.proofs.Common.{◌≡◌, ℕ, List, [], ◌∷◌, ◌++◌, Bool, true, false, cond, not, ◌||◌, length, refl, sym, subst}
+use Rattle.std.proofs.Common.{◌≡◌, ℕ, ◌+◌, List, [], ◌∷◌, ◌++◌, Bool, true, false, cond, not, ◌||◌, length, refl, ap, sym, ◌∙◌, subst}
 use Rattle.std.specs.Prelude.{nat_lt, Option, Some, None, is_some, Ok, Err}
+use Rattle.std.specs.List.{list_all}
+use Rattle.std.proofs.lemmas.Bool.{and_from, eq-eqb}
+use Rattle.std.proofs.lemmas.List.{length-map}
 use Rattle.arr_num.specs.declared.elem.Elem.{Elem}
 use Rattle.arr_num.specs.declared.code.Code.TheVariants as code
 use Rattle.arr_num.specs.Numbers.{in_type}
 use Rattle.arr_view.specs.Strided.{Strided}
-use Rattle.arr_view.specs.Views.{is_view, repeats, same_lists}
+use Rattle.arr_view.specs.Views.{is_view, repeats, same_lists, positions, whole_view}
 use Rattle.arr_ops.specs.declared.op.Op.{Op}
 use Rattle.arr_ops.specs.declared.op.Operand.TheVariants as operand
-use Rattle.arr_ops.specs.Formed.{same_elem}
+use Rattle.arr_ops.specs.declared.gather.Gather.{Gather as GatherOp}
+use Rattle.arr_ops.specs.declared.gather.Scatter.{Scatter as ScatterOp}
+use Rattle.arr_ops.specs.Gathers.{is_gather, is_scatter}
+use Rattle.arr_num.specs.Types.{same_elem, same_elem_is, same_elem_refl}
 use Rattle.arr_shape.specs.Views.{spread}
 use Rattle.arr_shape.proofs.Consecutive.{lists_same}
 use Rattle.arr_syntax.specs.declared.refusal.Place.{Place}
 use Rattle.arr_syntax.specs.declared.refusal.Kind.{Kind}
-use Rattle.arr_syntax.specs.declared.refusal.Kind.TheVariants.{TypeMismatch, LiteralRange, OutputRepeats, TooManyNames, UnknownName}
+use Rattle.arr_syntax.specs.declared.refusal.Kind.TheVariants.{TypeMismatch, LiteralRange, ShapeMismatch, OutputRepeats, TooManyNames, TooMuchLive, UnknownName}
 use Rattle.arr_syntax.specs.declared.tree.Word.{Word}
 use Rattle.arr_syntax.specs.declared.tree.Form.{Form}
 use Rattle.arr_syntax.specs.declared.tree.Form.TheVariants as form
@@ -22,17 +28,19 @@ use Rattle.arr_elab.specs.declared.value.Array.{Array}
 use Rattle.arr_elab.specs.declared.value.Value.TheVariants as value
 use Rattle.arr_elab.specs.declared.value.Prepared.{Prepared}
 use Rattle.arr_elab.specs.declared.value.Prepared.TheVariants.{Ready, Open}
-use Rattle.arr_elab.specs.declared.step.Step.TheVariants.{Act, Forget}
-use Rattle.arr_elab.specs.State.{State, Reading, Checked, and_then, ◌>>=◌, ◌>>◌, pure, require, act, stands_for, number_of, with_name, most_names}
-use Rattle.arr_elab.specs.Expressions.{operation, onto, taken, written, array, found}
-use Rattle.arr_elab.specs.Outcome.{prepared, assigned, stored, bound, bind, forget, effect, begin, statement, statements}
-use Rattle.arr_elab.specs.Recording.{Scene, stands, may_act}
+use Rattle.arr_elab.specs.declared.step.Step.TheVariants.{Act, Gather, Scatter, Forget}
+use Rattle.arr_elab.specs.State.{State, Reading, Checked, and_then, ◌>>=◌, ◌>>◌, pure, require, act, stands_for, number_of, with_name, most_names, fresh, live, most_live}
+use Rattle.arr_elab.specs.Expressions.{operation, onto, taken, written, settled, array_of, array, found}
+use Rattle.arr_elab.specs.Outcome.{prepared, assigned, stored, bound, bind, forget, gather_arrays, scatter_arrays, effect, begin, statement, statements}
+use Rattle.arr_elab.specs.Recording.{Scene, stands, may_act, may_gather, may_scatter}
 use Rattle.arr_elab.proofs.Derived.{not_true, derived_spread}
-use Rattle.arr_elab.proofs.Scenes.{Grows, Stands, stands_on, stands_derived, stands_test, elem_self, elem_same}
-use Rattle.arr_elab.proofs.Keeping.{Keeps, keeps_act, keeps_done, keeps_cut, keeps_begun, keeps_name, keeps_forgotten}
+use Rattle.arr_elab.proofs.Scenes.{Grows, Stands, with_base, grows_on, stands_on, stands_derived, stands_test}
+use Rattle.arr_elab.proofs.Keeping.{Keeps, keeps_act, keeps_gather, keeps_scatter, keeps_done, keeps_cut, keeps_begun, keeps_name, keeps_forgotten}
 use Rattle.arr_elab.proofs.Shaped.{view_shape}
 use Rattle.arr_elab.proofs.Waiting.{Pends, pends_copy, pends_number, may_store}
-use Rattle.arr_elab.proofs.Sound.{Reads, needed, by_rule, IsArray, IsPrepared, array_sound, written_reads}
+use Rattle.arr_elab.proofs.Sound.{Reads, needed, by_rule, IsArray, IsValue, IsPrepared, value_on, value_sound, array_of_reads, array_sound, written_reads}
+use Rattle.arr_elab.proofs.KindsKept.{lists_test}
+use Rattle.arr_elab.proofs.Wholes.{whole_is, whole_lawful, stands_new}
 use Rattle.arr_elab.proofs.EachTree.{prepared_sound}
 
 -- what a statement leaves keeps some scene
@@ -95,7 +103,7 @@ stored_leaves target equals (Open p) scene s r k t h e = by (same_lists p.shape 
     by : (b : Bool) → same_lists p.shape target.view.lengths ≡ b → cond b direct apart s ≡ Ok r → Leaves r
     by true f e =
         let tests = both_needed (same_elem target.elem p.op.to) (not (repeats target.view)) equals TypeMismatch OutputRepeats s _ r e in
-        stores p.shape p.op target scene s r k h t (elem_same target.elem p.op.to tests.0) (sym (lists_same p.shape target.view.lengths f)) tests.1 tests.2
+        stores p.shape p.op target scene s r k h t (same_elem_is target.elem p.op.to tests.0) (sym (lists_same p.shape target.view.lengths f)) tests.1 tests.2
     by false f e =
         after IsArray scene (written p s) _ r e (λ a f. written_reads p scene s a k h f)
         (λ a next g j i e. assigned_leaves target equals a.0 next a.1 r j (stands_on scene next target.elem target.view g t) i e)
@@ -117,11 +125,78 @@ forget_leaves word scene s r k e = by (stands_for s.names word.text) e
     by None e = absurd (let g : Err (record { at = word.at; kind = UnknownName }) ≡ Ok r = e in cc)
     by (Some a) e = left _ _ r (keeps_forgotten s scene word.text k) e
 
+-- ---- gathers and scatters
+
+abbrev gather_of : ℕ → Array → Array → GatherOp
+gather_of base source index = record { out = whole_view base index.view.lengths; source = source.view; index = index.view; to = source.elem; of = index.elem }
+
+abbrev scatter_of : Array → Array → Array → ScatterOp
+scatter_of target index values = record { target = target.view; index = index.view; values = values.view; to = target.elem; of = index.elem }
+
+three_views : (u v w : Strided) → is_view u ≡ true → is_view v ≡ true → is_view w ≡ true → list_all is_view (u ∷ v ∷ w ∷ []) ≡ true
+three_views u v w a b c = and_from (is_view u) _ a (and_from (is_view v) _ b (and_from (is_view w) true c refl))
+
+gather_may : (scene : Scene) (source index : Array) → IsArray scene source → IsArray scene index → may_gather scene (gather_of (length scene.bases) source index) ≡ true
+gather_may scene source index h i =
+    let g : GatherOp = gather_of (length scene.bases) source index in
+    and_from (is_gather g) _
+    (and_from (list_all is_view (g.out ∷ g.source ∷ g.index ∷ [])) _
+    (three_views g.out g.source g.index (whole_lawful (length scene.bases) index.view.lengths (view_shape index.view i.placed.lawful)) h.placed.lawful i.placed.lawful)
+    (and_from (same_lists g.out.lengths g.index.lengths) _ (lists_test index.view.lengths index.view.lengths refl) (whole_is (length scene.bases) index.view.lengths)))
+    (and_from (stands scene source.elem source.view) _ (stands_test scene source.elem source.view h)
+    (and_from (stands scene index.elem index.view) _ (stands_test scene index.elem index.view i) (eq-eqb (length scene.bases) (length scene.bases) refl)))
+
+gather_leaves : (word : Word) (at : Place) (source index : Array) (scene : Scene) (s : State) (r : Unit {0} × State) → Keeps s scene → IsArray scene source → IsArray scene index
+    → gather_arrays word at source index s ≡ Ok r → Leaves r
+unfolding fresh
+gather_leaves word at source index scene s r k h i e = by (nat_lt most_live (live s + positions index.view.lengths)) e
+  where
+    lengths : List ℕ
+    lengths = index.view.lengths
+
+    made : Strided × State
+    made = (whole_view (length s.bases) lengths, record s { bases = s.bases ++ positions lengths ∷ [] })
+
+    rest : Strided × State → Checked (Unit {0} × State)
+    rest a = bind word (record { view = a.0; elem = source.elem })
+        (record a.1 { steps = a.1.steps ++ Gather (record { out = a.0; source = source.view; index = index.view; to = source.elem; of = index.elem }) ∷ [] })
+
+    same : length scene.bases ≡ length s.bases
+    same = sym (length-map scene.bases (λ (b : ℕ × Elem). b.0)) ∙ ap length k.lengths
+
+    bound_to : ℕ → Checked (Unit {0} × State)
+    bound_to n = bind word (record { view = whole_view n lengths; elem = source.elem }) (record s { bases = s.bases ++ positions lengths ∷ []; steps = s.steps ++ Gather (gather_of n source index) ∷ [] })
+
+    by : (b : Bool) → and_then (cond b (Err (record { at = at; kind = TooMuchLive })) (Ok made)) rest ≡ Ok r → Leaves r
+    by true e = absurd (let g : Err (record { at = at; kind = TooMuchLive }) ≡ Ok r = e in cc)
+    by false e =
+        let own : bound_to (length scene.bases) ≡ Ok r = subst (λ n. bound_to n ≡ Ok r) (sym same) e in
+        bind_leaves word (record { view = whole_view (length scene.bases) lengths; elem = source.elem }) (with_base scene (positions lengths) source.elem)
+        (record s { bases = s.bases ++ positions lengths ∷ []; steps = s.steps ++ Gather (gather_of (length scene.bases) source index) ∷ [] }) r
+        (keeps_gather s scene (gather_of (length scene.bases) source index) k (gather_may scene source index h i))
+        (stands_new scene lengths source.elem (view_shape index.view i.placed.lawful) k.reached) own
+
+scatter_leaves : (at : Place) (target index values : Array) (scene : Scene) (s : State) (r : Unit {0} × State) → Keeps s scene → IsArray scene target → IsArray scene index → IsArray scene values
+    → scatter_arrays at target index values s ≡ Ok r → Leaves r
+scatter_leaves at target index values scene s r k h i j e =
+    let types = needed (same_elem target.elem values.elem) at TypeMismatch s _ r e in
+    let shapes = needed (same_lists index.view.lengths values.view.lengths) at ShapeMismatch s _ r types.1 in
+    let once = needed (not (repeats target.view)) at OutputRepeats s _ r shapes.1 in
+    let g : ScatterOp = scatter_of target index values in
+    let there : Stands scene target.elem values.view = subst (λ t. Stands scene t values.view) (sym (same_elem_is target.elem values.elem types.0)) j in
+    let may : may_scatter scene g ≡ true =
+    and_from (is_scatter g) _
+    (and_from (list_all is_view (g.target ∷ g.index ∷ g.values ∷ [])) _ (three_views g.target g.index g.values h.placed.lawful i.placed.lawful j.placed.lawful)
+    (and_from (same_lists g.index.lengths g.values.lengths) _ shapes.0 once.0))
+    (and_from (stands scene target.elem target.view) _ (stands_test scene target.elem target.view h)
+    (and_from (stands scene index.elem index.view) _ (stands_test scene index.elem index.view i) (stands_test scene target.elem values.view there))) in
+    left (record s { steps = s.steps ++ Scatter g ∷ [] }) scene r (keeps_scatter s scene g k may) once.1
+
 -- ---- statements
 
 may_print : (scene : Scene) (t : Elem) (v : Strided) → Stands scene t v → may_act scene (operation code.Sync t t (taken v) None None) ≡ true
 may_print scene t v h =
-    let self : same_elem t t ≡ true = elem_self t in
+    let self : same_elem t t ≡ true = same_elem_refl t in
     let lawful : is_view v ≡ true = h.placed.lawful in
     let here : stands scene t v ≡ true = stands_test scene t v h in
     rw (self, lawful, here)
@@ -137,6 +212,20 @@ effect_leaves (form.Bind word x) scene s r k e =
 effect_leaves (form.Assign target equals x) scene s r k e =
     after IsArray scene (array (prepared target) s) _ r e (λ a f. array_sound (prepared target) (prepared_sound target) scene s a k f) (λ a next g j i e.
     after IsPrepared next (prepared x a.1) _ r e (λ p f. prepared_sound x next a.1 p j f) (λ p last l m q e. stored_leaves a.0 equals p.0 last p.1 r m (stands_on next last a.0.elem a.0.view l i) q e))
+effect_leaves (form.Gather word at source index) scene s r k e =
+    after IsValue scene ((prepared source >>= settled) s) _ r e (λ a f. value_sound (prepared source) (prepared_sound source) scene s a k f) (λ x one g j p e.
+    after IsValue one ((prepared index >>= settled) x.1) _ r e (λ a f. value_sound (prepared index) (prepared_sound index) one x.1 a j f) (λ y two h k q e.
+    after IsArray two (array_of x.0 y.1) _ r e (λ a f. array_of_reads x.0 two y.1 a k (value_on one two x.0 h p) f) (λ a three i l v e.
+    after IsArray three (array_of y.0 a.1) _ r e (λ b f. array_of_reads y.0 three a.1 b l (value_on two three y.0 i q) f) (λ b four u m w e.
+    gather_leaves word at a.0 b.0 four b.1 r m (stands_on three four a.0.elem a.0.view u v) w e))))
+effect_leaves (form.Scatter at target index values) scene s r k e =
+    after IsValue scene ((prepared target >>= settled) s) _ r e (λ a f. value_sound (prepared target) (prepared_sound target) scene s a k f) (λ x one g j p e.
+    after IsValue one ((prepared index >>= settled) x.1) _ r e (λ a f. value_sound (prepared index) (prepared_sound index) one x.1 a j f) (λ y two h k q e.
+    after IsValue two ((prepared values >>= settled) y.1) _ r e (λ a f. value_sound (prepared values) (prepared_sound values) two y.1 a k f) (λ z three i l v e.
+    after IsArray three (array_of x.0 z.1) _ r e (λ a f. array_of_reads x.0 three z.1 a l (value_on two three x.0 i (value_on one two x.0 h p)) f) (λ a four u m w e.
+    after IsArray four (array_of y.0 a.1) _ r e (λ b f. array_of_reads y.0 four a.1 b m (value_on three four y.0 u (value_on two three y.0 i q)) f) (λ b five n o t e.
+    after IsArray five (array_of z.0 b.1) _ r e (λ c f. array_of_reads z.0 five b.1 c o (value_on four five z.0 n (value_on three four z.0 u v)) f) (λ c six d last x e.
+    scatter_leaves at a.0 b.0 c.0 six c.1 r last (stands_on four six a.0.elem a.0.view (grows_on four five six n d) w) (stands_on five six b.0.elem b.0.view d t) x e))))))
 
 chain : (got : Checked (Unit {0} × State)) (f : Unit {0} × State → Checked (Unit {0} × State)) (r : Unit {0} × State) → and_then got f ≡ Ok r
     → ((a : Unit {0} × State) → got ≡ Ok a → Leaves a) → ((a : Unit {0} × State) (next : Scene) → Keeps a.1 next → f a ≡ Ok r → Leaves r) → Leaves r

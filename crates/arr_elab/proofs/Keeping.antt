@@ -6,12 +6,16 @@ use Rattle.std.proofs.lemmas.Bool.{and_from, lt-ltb, eq-eqb, eqb-true, eqb-false
 use Rattle.std.proofs.lemmas.List.{append-nil, map-append}
 use Rattle.std.proofs.Math.Bool.{or-true}
 use Rattle.arr_num.specs.declared.elem.Elem.{Elem}
+use Rattle.arr_view.specs.Views.{positions}
 use Rattle.arr_ops.specs.declared.op.Op.{Op}
+use Rattle.arr_ops.specs.declared.gather.Gather.{Gather}
+use Rattle.arr_ops.specs.declared.gather.Scatter.{Scatter}
 use Rattle.arr_elab.specs.declared.value.Array.{Array}
 use Rattle.arr_elab.specs.declared.step.Step.{Step}
+use Rattle.arr_elab.specs.declared.step.Step.TheVariants as step
 use Rattle.arr_elab.specs.declared.step.Step.TheVariants.{Act, Name, Forget, Done, Cut}
 use Rattle.arr_elab.specs.State.{State, nothing_yet, stands_for, number_of, with_name}
-use Rattle.arr_elab.specs.Recording.{Scene, opening, may_act, made_by, other_names, allowed, after_step, after_steps}
+use Rattle.arr_elab.specs.Recording.{Scene, opening, may_act, may_gather, may_scatter, made_by, other_names, allowed, after_step, after_steps}
 use Rattle.arr_elab.proofs.Scenes.{Grows, Placed, Stands, placed_on, with_base, grows_base}
 use Rattle.arr_elab.proofs.Naming.{at_number, found_at, set_at, kept_at, notes, notes_live, notes_other}
 
@@ -83,18 +87,31 @@ keeps_act s scene op k e f =
       names = k.names;
     }
 
--- an operation that makes a base
-pub keeps_made : (s : State) (scene : Scene) (op : Op) (n : ℕ) (t : Elem) → Keeps s scene → may_act scene op ≡ true → made_by op ≡ (n, t) ∷ []
-    → Keeps (record s { bases = s.bases ++ n ∷ []; steps = s.steps ++ Act op ∷ [] }) (with_base scene n t)
-keeps_made s scene op n t k e f =
+-- one more base is made
+made : (s : State) (scene : Scene) (new : Step) (n : ℕ) (t : Elem) → Keeps s scene → after_step scene new ≡ Some (with_base scene n t)
+    → Keeps (record s { bases = s.bases ++ n ∷ []; steps = s.steps ++ new ∷ [] }) (with_base scene n t)
+made s scene new n t k e =
     let long : length (scene.bases ++ (n, t) ∷ []) ≡ length scene.bases + 1 = length-append scene.bases ((n, t) ∷ []) in
     let low : scene.first ≤ length scene.bases = k.reached in
     record {
-      steps = added s scene (with_base scene n t) (Act op) k (acts scene op ((n, t) ∷ []) e f);
+      steps = added s scene (with_base scene n t) new k e;
       lengths = map-append (λ (p : ℕ × Elem). p.0) scene.bases ((n, t) ∷ []) ∙ ap (λ xs. xs ++ n ∷ []) k.lengths;
       reached = omega arith;
       names = λ m a h. entry_on scene (with_base scene n t) m a (grows_base scene n t) (k.names m a h);
     }
+
+-- an operation that makes a base
+pub keeps_made : (s : State) (scene : Scene) (op : Op) (n : ℕ) (t : Elem) → Keeps s scene → may_act scene op ≡ true → made_by op ≡ (n, t) ∷ []
+    → Keeps (record s { bases = s.bases ++ n ∷ []; steps = s.steps ++ Act op ∷ [] }) (with_base scene n t)
+keeps_made s scene op n t k e f = made s scene (Act op) n t k (acts scene op ((n, t) ∷ []) e f)
+
+pub keeps_gather : (s : State) (scene : Scene) (g : Gather) → Keeps s scene → may_gather scene g ≡ true
+    → Keeps (record s { bases = s.bases ++ positions g.out.lengths ∷ []; steps = s.steps ++ step.Gather g ∷ [] }) (with_base scene (positions g.out.lengths) g.to)
+keeps_gather s scene g k e = made s scene (step.Gather g) (positions g.out.lengths) g.to k (ap (λ b. allowed b (with_base scene (positions g.out.lengths) g.to)) e)
+
+pub keeps_scatter : (s : State) (scene : Scene) (g : Scatter) → Keeps s scene → may_scatter scene g ≡ true → Keeps (record s { steps = s.steps ++ step.Scatter g ∷ [] }) scene
+keeps_scatter s scene g k e =
+    record { steps = added s scene scene (step.Scatter g) k (ap (λ b. allowed b scene) e); lengths = k.lengths; reached = k.reached; names = k.names }
 
 pub keeps_done : (s : State) (scene : Scene) → Keeps s scene → Keeps (record s { steps = s.steps ++ Done ∷ [] }) (record scene { first = length scene.bases })
 keeps_done s scene k =

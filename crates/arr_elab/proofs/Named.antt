@@ -76,6 +76,10 @@ inserted key v (e ∷ es) =
 abbrev pub one : Option Array → ℕ
 one o = cond (is_some o) 1 0
 
+pub one_most : (o : Option Array) → one o ≤ 1
+one_most None = omega arith
+one_most (Some a) = omega arith
+
 pub count_more : (e : List ℕ × Option Array) (es : Names) → count_by is_bound (e ∷ es) ≡ one e.1 + count_by is_bound es
 count_more e es = sum_by-cons (λ (x : List ℕ × Option Array). cond (is_bound x) 1 0) e es
 

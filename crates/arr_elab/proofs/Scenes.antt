@@ -1,34 +1,21 @@
 -- Views that stand for live bases, and what bases that are added leave of them.
-use Rattle.std.proofs.Common.{◌≡◌, ℕ, ◌+◌, ◌<◌, ◌≤◌, List, [], ◌∷◌, ◌++◌, true, false, ◌||◌, length, get_or, refl, ap, ap₂, sym, ◌∙◌, subst, arith, length-append, append_assoc}
+use Rattle.std.proofs.Common.{◌≡◌, ℕ, ◌+◌, ◌<◌, ◌≤◌, List, [], ◌∷◌, ◌++◌, true, ◌||◌, length, get_or, refl, ap, ap₂, sym, ◌∙◌, subst, arith, length-append, append_assoc}
 use Rattle.std.specs.Prelude.{nat_lt, nat_le, ◌==◌}
 use Rattle.std.specs.List.{list_any}
 use Rattle.std.proofs.lemmas.Bool.{and_parts, and_from, ltb-true, lt-ltb, le-leb}
 use Rattle.std.proofs.lemmas.List.{append-nil, get_or_append_left, get_or-append-add}
 use Rattle.arr_num.specs.declared.elem.Elem.{Elem}
-use Rattle.arr_num.specs.declared.elem.Elem.TheVariants.{U8, I32, I64, U64}
+use Rattle.arr_num.specs.declared.elem.Elem.TheVariants.{U8}
 use Rattle.arr_view.specs.Strided.{Strided}
 use Rattle.arr_view.specs.Views.{is_view}
-use Rattle.arr_ops.specs.Formed.{same_elem}
+use Rattle.arr_num.specs.Types.{same_elem, same_elem_refl}
 use Rattle.arr_elab.specs.Recording.{Scene, length_of, type_of, is_live, stands}
 use Rattle.arr_elab.proofs.Derived.{Derived, Lies, is_below}
 
 -- ---- types
 
-pub elem_self : (t : Elem) → same_elem t t ≡ true
-elem_self U8 = refl
-elem_self I32 = refl
-elem_self I64 = refl
-elem_self U64 = refl
-
-pub elem_same : (t u : Elem) → same_elem t u ≡ true → t ≡ u
-elem_same U8 U8 e = refl
-elem_same I32 I32 e = refl
-elem_same I64 I64 e = refl
-elem_same U64 U64 e = refl
-elem_same _ _ e = absurd (let f : false ≡ true = e in cc)
-
 pub elem_test : (t u : Elem) → t ≡ u → same_elem t u ≡ true
-elem_test t u e = ap (same_elem t) (sym e) ∙ elem_self t
+elem_test t u e = ap (same_elem t) (sym e) ∙ same_elem_refl t
 
 -- ---- bases are added
 

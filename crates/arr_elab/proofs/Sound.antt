@@ -135,7 +135,7 @@ settled_reads (Open p) scene s r k h e =
 pub value_sound : (of : Reading Prepared) → Sound IsPrepared of → Sound IsValue (of >>= settled)
 value_sound of h scene s r k e = in_turn IsPrepared IsValue scene (of s) (λ a. settled a.0 a.1) r e (λ a f. h scene s a k f) (λ a next g j i f. settled_reads a.0 next a.1 r j i f)
 
-array_of_reads : (v : Value) (scene : Scene) (s : State) (r : Array × State) → Keeps s scene → IsValue scene v → array_of v s ≡ Ok r → Reads IsArray scene r
+pub array_of_reads : (v : Value) (scene : Scene) (s : State) (r : Array × State) → Keeps s scene → IsValue scene v → array_of v s ≡ Ok r → Reads IsArray scene r
 array_of_reads (value.Literal at number) scene s r k h e = absurd (let f : Err (record { at = at; kind = TypeMismatch }) ≡ Ok r = e in cc)
 array_of_reads (value.Array a) scene s r k h e = at_once IsArray scene s a r k h e
 

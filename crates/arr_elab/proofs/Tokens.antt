@@ -8,9 +8,9 @@ pub use Rattle.arr_syntax.specs.Tokens.{tokens}
 pub use Rattle.arr_syntax.specs.declared.tree.Statement.{Statement}
 pub use Rattle.arr_syntax.specs.Grammar.{Script}
 use Rattle.arr_elab.specs.declared.step.Step.{Step}
-use Rattle.arr_elab.specs.Steps.{acts}
+use Rattle.arr_elab.specs.Steps.{deeds}
 use Rattle.arr_elab.specs.Outcome.{outcome}
-use Rattle.arr_elab.proofs.Counted.{few_acts}
+use Rattle.arr_elab.proofs.Counted.{few_deeds}
 
 put_short : (o : Option Token) (p : Place) (items : List Item) (n : ℕ) → length items ≤ n → length (put o p items) ≤ n + 1
 put_short None p items n h = omega arith
@@ -29,5 +29,5 @@ items_short zero p (b ∷ bs) =
 pub tokens_short : (text : List ℕ) → length (tokens text) ≤ length text + 1
 tokens_short text = items_short 0 (record { line = 1; column = 1 }) text
 
-pub few_of_text : (text : List ℕ) (ss : List Statement) (steps : List Step) → Script (tokens text) ss → outcome ss ≡ Ok steps → length (acts steps) ≤ length text + 1
-few_of_text text ss steps script e = let h = few_acts (tokens text) ss steps script e in let k = tokens_short text in omega arith
+pub few_of_text : (text : List ℕ) (ss : List Statement) (steps : List Step) → Script (tokens text) ss → outcome ss ≡ Ok steps → deeds steps ≤ length text + 1
+few_of_text text ss steps script e = let h = few_deeds (tokens text) ss steps script e in let k = tokens_short text in omega arith

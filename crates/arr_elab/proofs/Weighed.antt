@@ -50,6 +50,8 @@ form_weight (form.Del word) = 0
 form_weight form.Flush = 0
 form_weight (form.Bind word e) = weight e
 form_weight (form.Assign target equals e) = weight target + weight e + 1
+form_weight (form.Gather word at source index) = weight source + weight index + 1
+form_weight (form.Scatter at target index values) = weight target + weight index + weight values + 1
 
 abbrev pub script_weight : List Statement → ℕ
 script_weight [] = 0
@@ -227,6 +229,8 @@ statement_short (grammar.delete e f) = omega arith
 statement_short (grammar.flush e) = omega arith
 statement_short (grammar.bind e f x) = let p = level_short x in omega arith
 statement_short (grammar.assign x e y) = let p = target_short x in let q = level_short y in omega arith
+statement_short (grammar.gather e f g h x k y l) = let p = level_short x in let q = level_short y in omega arith
+statement_short (grammar.scatter e f x g y h z k) = let p = placed_short x in let q = level_short y in let r = level_short z in omega arith
 
 mutual
   pub script_short : (items : List Item) (ss : List Statement) → Script items ss → script_weight ss ≤ length items

@@ -1,5 +1,5 @@
 -- Which opcode a sign or word of an expression stands for.
-use Rattle.std.specs.Prelude.{ℤ, pos, negsuc, ℕ, zero, suc, Bool, true, false, if◌then◌else◌}
+use Rattle.std.specs.Prelude.{Bool, true, false, if◌then◌else◌}
 use Rattle.arr_num.specs.declared.elem.Elem.{Elem}
 use Rattle.arr_num.specs.declared.elem.Elem.TheVariants as elem
 use Rattle.arr_num.specs.declared.code.Code.{Code}
@@ -62,11 +62,3 @@ compares _ = false
 -- the type of the result: a comparison gives u8
 abbrev pub result_type : Code → Elem → Elem
 result_type code t = if compares code then elem.U8 else t
-
-abbrev pub negative_of : ℕ → ℤ
-negative_of zero = pos 0
-negative_of (suc n) = negsuc n
-
--- the number that a literal spells
-abbrev pub spelled : Bool → ℕ → ℤ
-spelled negative size = if negative then negative_of size else pos size

@@ -1,20 +1,10 @@
 -- Definitions, computed.
-use Rattle.std.specs.Prelude.{◌≡◌, refl, pos, negsuc, [], ◌∷◌, true, false, None, Some}
+use Rattle.std.specs.Prelude.{◌≡◌, refl, [], ◌∷◌, None, Some}
 use Rattle.arr_num.specs.declared.elem.Elem.TheVariants.{I64}
 use Rattle.arr_view.specs.Views.{whole_view}
 use Rattle.arr_elab.specs.declared.value.Array.{Array}
 use Rattle.arr_elab.specs.State.{Names, live_from, number_of, stands_for, with_name}
 use Rattle.arr_elab.specs.Outcome.{bound}
-use Rattle.arr_elab.specs.Codes.{spelled}
-
-pub five : spelled false 5 ≡ pos 5
-five = refl
-
-pub minus_five : spelled true 5 ≡ negsuc 4
-minus_five = refl
-
-pub no_minus_zero : spelled true 0 ≡ pos 0
-no_minus_zero = refl
 
 -- a whole base of three elements
 abbrev three : Array

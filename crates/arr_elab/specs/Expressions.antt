@@ -7,7 +7,7 @@ use Rattle.arr_num.specs.declared.code.Code.{Code}
 use Rattle.arr_num.specs.declared.code.Code.TheVariants as code
 use Rattle.arr_num.specs.Numbers.{in_type, wrap}
 use Rattle.arr_num.specs.Kinds.{is_reduction}
-use Rattle.arr_ops.specs.Formed.{same_elem}
+use Rattle.arr_num.specs.Types.{same_elem}
 use Rattle.arr_view.specs.Strided.{Strided}
 use Rattle.arr_ops.specs.declared.op.Op.{Op}
 use Rattle.arr_ops.specs.declared.op.Operand.{Operand}
@@ -31,7 +31,8 @@ use Rattle.arr_elab.specs.declared.value.Pending.{Pending}
 use Rattle.arr_elab.specs.declared.value.Prepared.{Prepared}
 use Rattle.arr_elab.specs.declared.value.Prepared.TheVariants.{Ready, Open}
 use Rattle.arr_elab.specs.State.{Reading, ◌>>=◌, ◌>>◌, pure, refuse, require, ruled, known, act, fresh, stands_for}
-use Rattle.arr_elab.specs.Codes.{elem_of, binary_code, unary_code, fold_code, result_type, spelled}
+use Rattle.arr_elab.specs.Codes.{elem_of, binary_code, unary_code, fold_code, result_type}
+use Rattle.arr_syntax.specs.Grammar.{signed}
 
 -- ---- operations
 
@@ -90,7 +91,7 @@ abbrev pub named : Word → Reading Prepared
 named word = do ready (← lookup word)
 
 abbrev pub literal : Place → Bool → ℕ → Reading Prepared
-literal at negative size = pure (Ready (value.Literal at (spelled negative size)))
+literal at negative size = pure (Ready (value.Literal at (signed negative size)))
 
 -- ---- operators
 

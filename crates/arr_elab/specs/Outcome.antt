@@ -3,13 +3,13 @@ use Rattle.std.specs.Prelude.{ℕ, List, [], ◌∷◌, false, not, ◌||◌, na
 use Rattle.std.specs.List.{count_by}
 use Rattle.arr_num.specs.declared.code.Code.TheVariants as code
 use Rattle.arr_num.specs.Numbers.{in_type}
-use Rattle.arr_ops.specs.Formed.{same_elem}
+use Rattle.arr_num.specs.Types.{same_elem}
 use Rattle.arr_view.specs.Strided.{Strided}
 use Rattle.arr_view.specs.Views.{repeats, same_lists}
 use Rattle.arr_ops.specs.declared.op.Operand.TheVariants as operand
 use Rattle.arr_shape.specs.Views.{spread}
 use Rattle.arr_syntax.specs.declared.refusal.Place.{Place}
-use Rattle.arr_syntax.specs.declared.refusal.Kind.TheVariants.{TypeMismatch, LiteralRange, OutputRepeats, TooManyNames}
+use Rattle.arr_syntax.specs.declared.refusal.Kind.TheVariants.{TypeMismatch, LiteralRange, ShapeMismatch, OutputRepeats, TooManyNames}
 use Rattle.arr_syntax.specs.declared.tree.Expr.{Expr, fold-Expr}
 use Rattle.arr_syntax.specs.declared.tree.ExprForm.TheOpen.{ExprForm-F}
 use Rattle.arr_syntax.specs.declared.tree.Word.{Word}
@@ -21,9 +21,9 @@ use Rattle.arr_elab.specs.declared.value.Value.TheVariants as value
 use Rattle.arr_elab.specs.declared.value.Prepared.{Prepared}
 use Rattle.arr_elab.specs.declared.value.Prepared.TheVariants.{Ready, Open}
 use Rattle.arr_elab.specs.declared.step.Step.{Step}
-use Rattle.arr_elab.specs.declared.step.Step.TheVariants.{Name, Forget, Done, Cut}
-use Rattle.arr_elab.specs.State.{Names, Reading, Checked, and_then, ◌>>=◌, ◌>>◌, pure, require, ruled, known, step, act, stands_for, number_of, with_name, is_bound, most_names, nothing_yet}
-use Rattle.arr_elab.specs.Expressions.{operation, onto, taken, written, array, lookup, named, literal, unary, cast, power, binary, fold, range, full, index, broadcasted, transposed, reshaped, strided_anew}
+use Rattle.arr_elab.specs.declared.step.Step.TheVariants.{Name, Forget, Done, Cut, Gather, Scatter}
+use Rattle.arr_elab.specs.State.{Names, Reading, Checked, and_then, ◌>>=◌, ◌>>◌, pure, require, ruled, known, step, act, fresh, stands_for, number_of, with_name, is_bound, most_names, nothing_yet}
+use Rattle.arr_elab.specs.Expressions.{operation, onto, taken, written, settled, array_of, array, lookup, named, literal, unary, cast, power, binary, fold, range, full, index, broadcasted, transposed, reshaped, strided_anew}
 
 -- ---- an expression, by its form
 
@@ -97,6 +97,41 @@ forget word = do
   set_name word.text None
   step (Forget (number_of s.names word.text))
 
+-- ---- gathers and scatters
+
+-- a fresh base of the index's shape takes numbers of the source, and the name stands for it
+abbrev pub gather_arrays : Word → Place → Array → Array → Reading (Unit {0})
+gather_arrays word at source index = do
+  out ← fresh at index.view.lengths
+  step (Gather (record { out = out; source = source.view; index = index.view; to = source.elem; of = index.elem }))
+  bind word (record { view = out; elem = source.elem })
+
+abbrev pub scatter_arrays : Place → Array → Array → Array → Reading (Unit {0})
+scatter_arrays at target index values = do
+  require (same_elem target.elem values.elem) at TypeMismatch
+  require (same_lists index.view.lengths values.view.lengths) at ShapeMismatch
+  require (not (repeats target.view)) at OutputRepeats
+  step (Scatter (record { target = target.view; index = index.view; values = values.view; to = target.elem; of = index.elem }))
+
+-- whether an argument is an array is asked when all of them are read
+abbrev pub gather : Word → Place → Reading Prepared → Reading Prepared → Reading (Unit {0})
+gather word at source index = do
+  x ← source >>= settled
+  y ← index >>= settled
+  a ← array_of x
+  b ← array_of y
+  gather_arrays word at a b
+
+abbrev pub scatter : Place → Reading Prepared → Reading Prepared → Reading Prepared → Reading (Unit {0})
+scatter at target index values = do
+  x ← target >>= settled
+  y ← index >>= settled
+  z ← values >>= settled
+  a ← array_of x
+  b ← array_of y
+  c ← array_of z
+  scatter_arrays at a b c
+
 -- ---- statements
 
 abbrev pub effect : Form → Reading (Unit {0})
@@ -110,6 +145,8 @@ effect (form.Assign target equals e) = do
   place ← array (prepared target)
   p ← prepared e
   stored place equals p
+effect (form.Gather word at source index) = gather word at (prepared source) (prepared index)
+effect (form.Scatter at target index values) = scatter at (prepared target) (prepared index) (prepared values)
 
 -- a statement begins: the bases from here on are its own
 abbrev pub begin : Reading (Unit {0})

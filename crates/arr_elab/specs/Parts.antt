@@ -1,6 +1,6 @@
 -- Parts of the definitions that a function of their own follows.
 use Rattle.std.specs.Prelude.{false, not}
-use Rattle.arr_ops.specs.Formed.{same_elem}
+use Rattle.arr_num.specs.Types.{same_elem}
 use Rattle.arr_view.specs.Views.{repeats}
 use Rattle.arr_syntax.specs.declared.refusal.Place.{Place}
 use Rattle.arr_syntax.specs.declared.refusal.Kind.TheVariants.{TypeMismatch, OutputRepeats}

@@ -8,8 +8,13 @@ use Rattle.arr_view.specs.Strided.{Strided}
 use Rattle.arr_view.specs.Views.{elements, positions}
 use Rattle.arr_ops.specs.declared.op.Op.{Op}
 use Rattle.arr_ops.specs.Ops.{inputs, outputs}
-use Rattle.arr_ops.specs.Formed.{same_elem, well_formed, with_slot}
+use Rattle.arr_num.specs.Types.{same_elem}
+use Rattle.arr_ops.specs.Formed.{well_formed, with_slot}
+use Rattle.arr_ops.specs.declared.gather.Gather.{Gather}
+use Rattle.arr_ops.specs.declared.gather.Scatter.{Scatter}
+use Rattle.arr_ops.specs.Gathers.{is_gather, is_scatter}
 use Rattle.arr_elab.specs.declared.step.Step.{Step}
+use Rattle.arr_elab.specs.declared.step.Step.TheVariants as step
 use Rattle.arr_elab.specs.declared.step.Step.TheVariants.{Act, Name, Forget, Done, Cut}
 
 -- the length and type of each base made so far, the first base of the statement, and the base of each name
@@ -47,6 +52,13 @@ may_act scene op =
 abbrev pub made_by : Op → List (ℕ × Elem)
 made_by op = map (λ (o : Strided). (positions o.lengths, op.to)) (filter (λ _. op.makes) (outputs op))
 
+-- it makes the next base
+abbrev pub may_gather : Scene → Gather → Bool
+may_gather scene g = is_gather g && (stands scene g.to g.source && (stands scene g.of g.index && (g.out.base == length scene.bases)))
+
+abbrev pub may_scatter : Scene → Scatter → Bool
+may_scatter scene g = is_scatter g && (stands scene g.to g.target && (stands scene g.of g.index && stands scene g.to g.values))
+
 abbrev pub other_names : ℕ → List (ℕ × ℕ) → List (ℕ × ℕ)
 other_names n names = filter (λ (name : ℕ × ℕ). not (name.0 == n)) names
 
@@ -56,6 +68,8 @@ allowed test scene = cond test (Some scene) None
 -- what a step leaves, where it may come
 abbrev pub after_step : Scene → Step → Option Scene
 after_step scene (Act op) = allowed (may_act scene op) (record scene { bases = scene.bases ++ made_by op })
+after_step scene (step.Gather g) = allowed (may_gather scene g) (record scene { bases = scene.bases ++ (positions g.out.lengths, g.to) ∷ [] })
+after_step scene (step.Scatter g) = allowed (may_scatter scene g) scene
 after_step scene (Name n b) = allowed (is_live scene b) (record scene { names = (n, b) ∷ other_names n scene.names })
 after_step scene (Forget n) = Some (record scene { names = other_names n scene.names })
 after_step scene Done = Some (record scene { first = length scene.bases })

@@ -1,36 +1,30 @@
--- What the operations of steps print when each runs in turn.
+-- What the steps of a script print when each runs in turn.
 use Rattle.std.specs.Prelude.{ℕ, suc, List, [], ◌∷◌, Option, Some, None, length}
 use Rattle.std.specs.List.{flat_map, range_with_len}
 use Rattle.std.specs.Option.{option_to_list}
 use Rattle.arr_num.specs.declared.code.Code.{Code}
 use Rattle.arr_num.specs.declared.code.Code.TheVariants.{Sync}
 use Rattle.arr_ops.specs.declared.op.Op.{Op}
-use Rattle.arr_ops.specs.Memory.{Memory, Slot, eager, empty}
+use Rattle.arr_ops.specs.Memory.{Memory, Slot, step, eager, empty}
+use Rattle.arr_ops.specs.Gathers.{gathered, scattered}
 use Rattle.arr_elab.specs.declared.step.Step.{Step}
-use Rattle.arr_elab.specs.declared.step.Step.TheVariants.{Act}
+use Rattle.arr_elab.specs.declared.step.Step.TheVariants.{Act, Gather, Scatter}
 
-abbrev pub acts : List Step → List Op
-acts [] = []
-acts (Act op ∷ steps) = op ∷ acts steps
-acts (_ ∷ steps) = acts steps
+-- ---- slots
 
 -- a SYNC gets the next slot
 abbrev pub slot_from : ℕ → Code → Option ℕ
 slot_from next Sync = Some next
 slot_from next _ = None
 
-abbrev pub next_slot : ℕ → Code → ℕ
-next_slot next Sync = suc next
-next_slot next _ = next
+-- so many slots are filled after an operation of the code
+abbrev pub filled_after : ℕ → Code → ℕ
+filled_after n Sync = suc n
+filled_after n _ = n
 
 abbrev pub with_slot : Op → Option ℕ → Op
 with_slot op slot =
     record { code = op.code; to = op.to; from = op.from; out = op.out; first = op.first; second = op.second; axis = op.axis; slot = slot; frees = op.frees; makes = op.makes }
-
--- the operations with slots from a number on
-abbrev pub slotted : ℕ → List Op → List Op
-slotted next [] = []
-slotted next (op ∷ ops) = with_slot op (slot_from next op.code) ∷ slotted (next_slot next op.code) ops
 
 -- the contents of the slots from 1 to a number
 abbrev pub slots_to : ℕ → Memory → List Slot
@@ -44,6 +38,38 @@ slot_count ops = length (flat_map (λ (op : Op). option_to_list op.slot) ops)
 abbrev pub printed : Memory → List Op → List Slot
 printed m ops = slots_to (slot_count ops) (eager m ops)
 
--- the arrays of a script: its operations in order from the empty memory, with nothing freed and nothing put off
+-- ---- eager execution
+
+-- the memory so far, and how many slots are filled
+pub record Progress : Type 0 where
+  pub memory : Memory
+  pub filled : ℕ
+
+abbrev pub not_begun : Progress
+not_begun = record { memory = empty; filled = 0 }
+
+-- each step runs as it is reached
+abbrev pub run_step : Progress → Step → Progress
+run_step p (Act op) = record { memory = step p.memory (with_slot op (slot_from (suc p.filled) op.code)); filled = filled_after p.filled op.code }
+run_step p (Gather g) = record { memory = gathered p.memory g; filled = p.filled }
+run_step p (Scatter g) = record { memory = scattered p.memory g; filled = p.filled }
+run_step p _ = p
+
+abbrev pub run_steps : Progress → List Step → Progress
+run_steps p [] = p
+run_steps p (s ∷ steps) = run_steps (run_step p s) steps
+
+abbrev pub shown : Progress → List Slot
+shown p = slots_to p.filled p.memory
+
+-- the arrays of a script: its steps in order from the empty memory, with nothing freed and nothing put off
 abbrev pub eager_arrays : List Step → List Slot
-eager_arrays steps = printed empty (slotted 1 (acts steps))
+eager_arrays steps = shown (run_steps not_begun steps)
+
+-- how many operations, gathers and scatters there are
+abbrev pub deeds : List Step → ℕ
+deeds [] = 0
+deeds (Act op ∷ steps) = suc (deeds steps)
+deeds (Gather g ∷ steps) = suc (deeds steps)
+deeds (Scatter g ∷ steps) = suc (deeds steps)
+deeds (_ ∷ steps) = deeds steps

@@ -3,7 +3,7 @@
 ghost use Rattle.std.specs.Prelude.{◌≡◌};
 ghost use Rattle.arr_num.specs.Kinds.{is_reduction};
 ghost use Rattle.arr_elab.specs.Codes as spec;
-ghost use Rattle.arr_ops.specs.Formed as formed;
+ghost use Rattle.arr_syntax.specs.Grammar.{signed};
 
 use arr_num::{Code, Elem};
 use arr_syntax::{Code16, Type4};
@@ -99,15 +99,9 @@ pub(crate) fn is_reduction(code: Code) -> bool
     )
 }
 
-pub(crate) fn same_elem(left: Elem, right: Elem) -> bool
-    ensures { result ≡ formed.same_elem left right }
-{
-    left == right
-}
-
 /// The number that a literal spells.
-pub(crate) fn spelled(negative: bool, size: u64) -> i128
-    ensures { result ≡ spec.spelled negative size }
+pub(crate) fn literal_number(negative: bool, size: u64) -> i128
+    ensures { result ≡ signed negative size }
 {
     let size = i128::from(size);
     if negative { -size } else { size }

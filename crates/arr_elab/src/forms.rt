@@ -5,12 +5,12 @@ ghost use Rattle.arr_elab.specs.Contract.{Reads};
 ghost use Rattle.arr_elab.specs.Parts.{valued};
 ghost use Rattle.arr_elab.specs.State.{State};
 ghost use Rattle.arr_elab.specs.Expressions as spec;
-ghost use Rattle.arr_elab.specs.Codes.{spelled};
+ghost use Rattle.arr_syntax.specs.Grammar.{signed};
 ghost use Rattle.arr_elab.specs.declared.value.Prepared.TheVariants.{Ready};
 ghost use Rattle.arr_elab.specs.declared.value.Value.TheVariants as literal;
 ghost use Rattle.arr_elab.specs.Outcome.{prepared};
 
-use crate::codes::{binary_code, elem_of, fold_code, is_reduction, spelled, unary_code};
+use crate::codes::{binary_code, elem_of, fold_code, is_reduction, literal_number, unary_code};
 use crate::fault::ElabFault;
 use crate::joined::{filled, joined};
 use crate::operation::{exponent_of, operation, pending, ruled, seen, settled, shape_of, taken};
@@ -29,7 +29,7 @@ use std::alloc::Global;
 const MOST_ELEMENTS: u64 = 1_048_576;
 
 /// The array of a value where no literal may stand.
-fn array_of(value: Value) -> Result<Array, ElabFault>
+pub(crate) fn array_of(value: Value) -> Result<Array, ElabFault>
     ensures { (s : State) → Reads (spec.array_of value s) result s }
 {
     match value {
@@ -50,7 +50,7 @@ pub(crate) fn array(alloc: Global, reader: &mut Reader, of: &Expr) -> Result<Arr
 
 /// The value of an expression.
 #[cycle(expression)]
-fn value(alloc: Global, reader: &mut Reader, of: &Expr) -> Result<Value, ElabFault>
+pub(crate) fn value(alloc: Global, reader: &mut Reader, of: &Expr) -> Result<Value, ElabFault>
     ensures { Reads (valued (prepared of.now) reader.old) result reader.new }
 {
     let prepared = prepared(alloc, reader, of)?;
@@ -306,11 +306,11 @@ fn strided_anew(
 }
 
 fn literal(at: Place, negative: bool, size: u64) -> Prepared
-    ensures { result ≡ Ready (literal.Literal at (spelled negative size)) }
+    ensures { result ≡ Ready (literal.Literal at (signed negative size)) }
 {
     Prepared::Ready(Value::Literal {
         at,
-        number: spelled(negative, size),
+        number: literal_number(negative, size),
     })
 }
 

@@ -8,7 +8,7 @@ ghost use Rattle.arr_elab.specs.Contract.{Reads};
 ghost use Rattle.arr_elab.specs.State.{State};
 ghost use Rattle.arr_elab.specs.Expressions as spec;
 
-use crate::codes::{result_type, same_elem};
+use crate::codes::result_type;
 use crate::fault::ElabFault;
 use crate::operation::{operation, pending, ruled, shape_of};
 use crate::value::{Array, Prepared, Value};
@@ -78,7 +78,7 @@ fn literal_last(
 fn arrays(at: Place, code: Code, a: Array, b: Array) -> Result<Prepared, ElabFault>
     ensures { (s : State) → Reads (spec.joined at code (value.Array a) (value.Array b) s) result s }
 {
-    if !same_elem(a.elem, b.elem) {
+    if a.elem != b.elem {
         return Err(ElabFault::at(at, Kind::TypeMismatch));
     }
     let shape = match broadcast(a.view.shape(), b.view.shape()) {

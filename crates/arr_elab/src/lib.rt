@@ -21,6 +21,7 @@ mod bases;
 mod codes;
 mod fault;
 mod forms;
+mod gather;
 mod joined;
 mod names;
 mod operation;

@@ -79,10 +79,9 @@ impl Names {
         ensures named { OnOk result (self.new ≡ with_name self.old name.now array) }
         ensures unchanged { OnErr result (self.new ≡ self.old) }
     {
-        if self.bound == u64::MAX {
-            return Err(NoMemory);
-        }
         let key = name.to_vec(alloc)?;
+        // No more are bound than there are names.
+        let _most = self.arrays.len();
         let now = one_if(&array);
         let old = self.arrays.insert(key, array)?.flatten();
         self.bound = self.bound + now - one_if(&old);

@@ -10,6 +10,7 @@ ghost use Rattle.arr_syntax.specs.declared.tree.Form.TheVariants as form;
 
 use crate::fault::ElabFault;
 use crate::forms::{array, prepared};
+use crate::gather::{gather_by, scatter_by};
 use crate::operation::{operation, taken};
 use crate::reader::Reader;
 use crate::step::Step;
@@ -55,6 +56,18 @@ fn effect(alloc: Global, reader: &mut Reader, form: &Form) -> Result<(), ElabFau
             equals,
             value,
         } => assign(alloc, reader, target, *equals, value),
+        Form::Gather {
+            name,
+            at,
+            source,
+            index,
+        } => gather_by(alloc, reader, name, *at, source, index),
+        Form::Scatter {
+            at,
+            target,
+            index,
+            values,
+        } => scatter_by(alloc, reader, *at, target, index, values),
     }
 }
 

@@ -8,7 +8,6 @@ ghost use Rattle.arr_elab.specs.Contract.{Reads};
 ghost use Rattle.arr_elab.specs.Outcome as spec;
 ghost use Rattle.arr_elab.specs.Parts.{directly};
 
-use crate::codes::same_elem;
 use crate::fault::ElabFault;
 use crate::operation::{onto, operation, ruled, taken, written};
 use crate::reader::Reader;
@@ -22,7 +21,7 @@ use arr_view::View;
 use std::alloc::Global;
 
 /// Whether two shapes are the same.
-fn same_lists(left: &[u32], right: &[u32]) -> bool
+pub(crate) fn same_lists(left: &[u32], right: &[u32]) -> bool
     ensures { result ≡ same_lists left.now right.now }
 {
     left == right
@@ -63,7 +62,7 @@ fn assigned(
 ) -> Result<(), ElabFault>
     ensures { Reads (spec.assigned target equals source reader.old) result reader.new }
 {
-    if !same_elem(target.elem, source.elem) {
+    if target.elem != source.elem {
         return Err(ElabFault::at(equals, Kind::TypeMismatch));
     }
     let view = match spread(&source.view, target.view.shape()) {
@@ -105,7 +104,7 @@ fn stored_directly(
 ) -> Result<(), ElabFault>
     ensures { Reads (directly target equals pending reader.old) result reader.new }
 {
-    if !same_elem(target.elem, pending.op.to) {
+    if target.elem != pending.op.to {
         return Err(ElabFault::at(equals, Kind::TypeMismatch));
     }
     if repeats(alloc, &target.view)? {

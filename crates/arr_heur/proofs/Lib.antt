@@ -3,3 +3,4 @@ pub mod Stretches
 pub mod Merge
 pub mod Merged
 pub mod Saves
+pub mod OrderedBlocks

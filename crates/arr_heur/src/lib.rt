@@ -5,9 +5,11 @@
 #![tactic(auto)]
 
 mod laws;
+mod order;
 mod plans;
 
 pub use laws::{greedy_is_legal, greedy_saves, linear_is_legal};
+pub use order::ordered;
 pub use plans::linear;
 
 /// Want of memory.

@@ -6,7 +6,7 @@ use Rattle.std.specs.List.{list_all, range_with_len}
 use Rattle.arr_view.specs.Strided.{Strided}
 use Rattle.arr_view.specs.Views.{elements, has, is_view, lies, positions, to_place}
 use Rattle.arr_view.proofs.Checks.{lawful, same_rank}
-use Rattle.arr_view.proofs.Gapless.{same_tests}
+use Rattle.arr_view.proofs.Known.{same_tests}
 use Rattle.arr_view.proofs.Known.{same_lists-true}
 use Rattle.arr_view.proofs.Walking.{begins}
 use Rattle.arr_ops.specs.Formed.{is_whole}

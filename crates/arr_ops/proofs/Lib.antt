@@ -18,6 +18,7 @@ pub mod Merged
 pub mod Fits
 pub mod FitsLaw
 pub mod Serving
+pub mod Gathers
 pub mod Members
 pub mod Ordering
 pub mod Legality

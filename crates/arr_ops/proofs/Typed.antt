@@ -63,7 +63,7 @@ fold_in : (t : Elem) (f : ℤ → ℤ → ℤ) → ((x y : ℤ) → in_type t (f
 fold_in t f h z [] e = e
 fold_in t f h z (x ∷ xs) e = fold_in t f h (f z x) xs (h z x)
 
-map_in : (t : Elem) (f : ℕ → ℤ) → ((i : ℕ) → in_type t (f i) ≡ true) → (is : List ℕ) → AllIn t (map f is)
+pub map_in : (t : Elem) (f : ℕ → ℤ) → ((i : ℕ) → in_type t (f i) ≡ true) → (is : List ℕ) → AllIn t (map f is)
 map_in t f h [] = tt
 map_in t f h (i ∷ is) = (h i, map_in t f h is)
 

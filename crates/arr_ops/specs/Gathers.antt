@@ -5,7 +5,7 @@ use Rattle.std.specs.Int.{int_rem_euclid}
 use Rattle.arr_num.specs.declared.elem.Elem.{Elem}
 use Rattle.arr_num.specs.declared.elem.Elem.TheVariants.{I64}
 use Rattle.arr_view.specs.Strided.{Strided}
-use Rattle.arr_view.specs.Views.{elements, same_lists, repeats}
+use Rattle.arr_view.specs.Views.{elements, is_view, same_lists, repeats}
 use Rattle.arr_ops.specs.declared.gather.Gather.{Gather}
 use Rattle.arr_ops.specs.declared.gather.Scatter.{Scatter}
 use Rattle.arr_ops.specs.Memory.{Memory, Cell, changed, output_change, read}
@@ -58,13 +58,13 @@ scattered m op =
 
 -- ---- which of them there are, and from which memories they may run
 
--- the output is a whole base of the index's shape
+-- its views are views, and the output is a whole base of the index's shape
 abbrev pub is_gather : Gather → Bool
-is_gather op = same_lists op.out.lengths op.index.lengths && is_whole op.out
+is_gather op = list_all is_view (op.out ∷ op.source ∷ op.index ∷ []) && (same_lists op.out.lengths op.index.lengths && is_whole op.out)
 
--- index and values have one shape, and the target does not repeat
+-- its views are views, index and values have one shape, and the target does not repeat
 abbrev pub is_scatter : Scatter → Bool
-is_scatter op = same_lists op.index.lengths op.values.lengths && not (repeats op.target)
+is_scatter op = list_all is_view (op.target ∷ op.index ∷ op.values ∷ []) && (same_lists op.index.lengths op.values.lengths && not (repeats op.target))
 
 abbrev pub need : Elem → Strided → Need
 need t v = record { base = v.base; elem = t; places = elements v }

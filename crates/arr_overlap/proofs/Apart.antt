@@ -1,25 +1,16 @@
 -- Views that meet or don't, told by tests of all their elements.
-use Rattle.std.proofs.Common.{◌≡◌, ℕ, ◌≤◌, List, [], ◌∷◌, Bool, true, false, length, refl, ap, ap₂, sym, ◌∙◌, pos, arith}
-use Rattle.std.specs.Prelude.{◌==◌, ◌&&◌, ◌||◌, Option, Some, None}
+use Rattle.std.proofs.Common.{◌⊎◌, inl, inr, ◌<◌, ◌≡◌, ℕ, ◌≤◌, List, [], ◌∷◌, Bool, true, false, length, refl, ap, ap₂, sym, ◌∙◌, pos, arith}
+use Rattle.std.specs.Prelude.{nat_le, ◌==◌, ◌&&◌, ◌||◌, Option, Some, None}
 use Rattle.std.specs.List.{list_all}
-use Rattle.std.proofs.lemmas.Bool.{and_parts, and_left, eqb-true, eq-eqb, false_from_ne_true, false≢true}
+use Rattle.std.proofs.lemmas.Bool.{leb-true, and_parts, and_left, eqb-true, eq-eqb, false_from_ne_true}
 use Rattle.std.proofs.lemmas.List.{length-map}
 use Rattle.arr_view.specs.Strided.{Strided}
-use Rattle.arr_view.specs.Views.{elements, has, identical, is_view, overlap, places, positions, same_lists, share, to_place}
+use Rattle.arr_view.specs.Views.{elements, has, identical, is_view, lies, overlap, places, positions, same_lists, share, to_place}
 use Rattle.arr_view.proofs.Checks.{lawful, same_rank}
 use Rattle.arr_view.proofs.Counting.{some_position}
 use Rattle.arr_view.proofs.Places.{length-places}
-use Rattle.arr_overlap.proofs.Parts.{same_lists-true}
-
--- an element of a list passes what all pass
-pub passes : (q : ℕ → Bool) (ys : List ℕ) (x : ℕ) → list_all q ys ≡ true → has ys x ≡ true → q x ≡ true
-passes q [] x all h = absurd (false≢true h)
-passes q (y ∷ ys) x all h =
-    let parts = and_parts (q y) (list_all q ys) all in
-    elim (x == y) as (λ b. (x == y) ≡ b → q x ≡ true) [
-      | true ↦ λ e. ap q (eqb-true x y e) ∙ parts.0
-      | false ↦ λ e. passes q ys x parts.1 (sym (ap (λ b. b || has ys x) e) ∙ h)
-    ] refl
+use Rattle.arr_view.proofs.Ends.{passes}
+use Rattle.arr_view.proofs.Known.{same_lists-true}
 
 -- no number passes both tests, so none stands in both lists
 pub apart : (p q : ℕ → Bool) (xs ys : List ℕ) → list_all p xs ≡ true → list_all q ys ≡ true → ((x : ℕ) → p x ≡ true → q x ≡ true → ⊥) → share xs ys ≡ false
@@ -44,6 +35,9 @@ some_element v law =
     let long : length (elements v) ≡ positions v.lengths = length-map (places v.lengths v.strides (pos v.start)) to_place ∙ length-places v.lengths v.strides (pos v.start) (same_rank v law) in
     omega arith
 
+pub meets_itself : (v : Strided) → is_view v ≡ true → overlap v v ≡ true
+meets_itself v law = ap₂ (λ c d. c && d) (eq-eqb v.base v.base refl) (shares_itself (elements v) (some_element v law))
+
 pub identical_meet : (v w : Strided) → is_view v ≡ true → identical v w ≡ true → overlap v w ≡ true
 identical_meet v w law e =
     let a = and_parts (v.base == w.base) _ e in
@@ -59,3 +53,14 @@ undecided_base v w told h none =
           let some : told ≡ Some false = h e in
           absurd (cc)
     ] refl
+
+-- ranges apart have no number in common
+pub ranges_apart : (l h l' h' : ℕ) → (h < l') ⊎ (h' < l) → (x : ℕ) → lies l h x ≡ true → lies l' h' x ≡ true → ⊥
+ranges_apart l h l' h' apart x a b =
+    let p = and_parts (nat_le l x) (nat_le x h) a in
+    let q = and_parts (nat_le l' x) (nat_le x h') b in
+    let p0 : l ≤ x = leb-true l x p.0 in
+    let p1 : x ≤ h = leb-true x h p.1 in
+    let q0 : l' ≤ x = leb-true l' x q.0 in
+    let q1 : x ≤ h' = leb-true x h' q.1 in
+    elim apart [ inl o ↦ omega arith | inr o ↦ omega arith ]

@@ -1,22 +1,20 @@
 -- Which classes overlap.
-use Rattle.std.proofs.Common.{◌≡◌, ℕ, zero, suc, ◌+◌, ◌<◌, ◌≤◌, List, [], ◌∷◌, ◌++◌, Bool, true, false, length, take, map, set, get_or, replicate, refl, ap, ap₂, sym, subst, ◌∙◌, arith}
-use Rattle.std.specs.Prelude.{◌&&◌, ◌||◌, ◌==◌, nat_lt}
+use Rattle.std.proofs.Common.{◌≡◌, ℕ, zero, suc, ◌+◌, ◌<◌, ◌≤◌, List, [], ◌∷◌, ◌++◌, Bool, true, false, length, take, map, set, get_or, replicate, refl, ap, ap₂, sym, subst, ◌∙◌, arith, rules}
+use Rattle.std.specs.Prelude.{◌&&◌, ◌||◌, ◌==◌, nat_lt, Option, Some, None, IsSome}
 use Rattle.std.specs.List.{list_all}
-use Rattle.std.proofs.lemmas.Bool.{and_parts, and_from, eqb-true, eq-eqb, ltb-true, ltb-false, false≢true}
-use Rattle.std.proofs.lemmas.List.{get_or-set_same, get_or-set_other, length-set, length-append, length-replicate, take_all, take_more}
+use Rattle.std.proofs.lemmas.Bool.{and_parts, and_from, eqb-true, eqb-false, eq-eqb, ltb-true, ltb-false, false≢true}
+use Rattle.std.proofs.lemmas.List.{get_or-take, length-take-le, get_or-set_same, get_or-set_other, length-set, length-append, length-replicate, take_all, take_more}
 use Rattle.arr_sets.specs.Bits.{meets}
 use Rattle.arr_view.specs.Strided.{Strided}
-use Rattle.arr_view.specs.Views.{elements, has, is_view, overlap, share}
-use Rattle.arr_overlap.specs.Classes.{MarkedUpTo, overlaps_among, view_at}
-use Rattle.arr_overlap.specs.Marks.{Marks, most}
+use Rattle.arr_view.specs.Views.{elements, has, is_view, overlap, share, most_elements}
+use Rattle.arr_overlap.specs.declared.filters.Outline.{Outline}
+use Rattle.arr_overlap.specs.Classes.{AreMarks, AreOutlines, overlaps_among, view_at}
+use Rattle.arr_overlap.specs.Filters.{IsOutline}
+use Rattle.arr_overlap.specs.Marks.{Marks}
+use Rattle.arr_view.proofs.Known.{same_tests}
 use Rattle.arr_overlap.proofs.Marking.{elements_below}
 
 -- ---- two rows of marks meet exactly where the lists share a number
-
-same_tests : (a b : Bool) → (a ≡ true → b ≡ true) → (b ≡ true → a ≡ true) → a ≡ b
-same_tests true b f g = sym (f refl)
-same_tests false true f g = g refl
-same_tests false false f g = refl
 
 -- a number that stands in both
 record Common (test other : ℕ → Bool) : Type 0 where
@@ -69,33 +67,30 @@ bit_within [] i e = absurd (false≢true e)
 bit_within (b ∷ bits) zero e = omega arith
 bit_within (b ∷ bits) (suc i) e = let h = bit_within bits i e in omega arith
 
-element_within : (es : List ℕ) (x : ℕ) → list_all (λ e. nat_lt e most) es ≡ true → has es x ≡ true → x < most
+element_within : (es : List ℕ) (x : ℕ) → list_all (λ e. nat_lt e most_elements) es ≡ true → has es x ≡ true → x < most_elements
 element_within [] x all e = absurd (false≢true e)
 element_within (y ∷ es) x all e =
-    let p = and_parts (nat_lt y most) _ all in
+    let p = and_parts (nat_lt y most_elements) _ all in
     or_cases (x == y) (has es x) _ e
-    (λ h. let same : x ≡ y = eqb-true x y h in let low : y < most = ltb-true y most p.0 in omega arith)
+    (λ h. let same : x ≡ y = eqb-true x y h in let low : y < most_elements = ltb-true y most_elements p.0 in omega arith)
     (λ h. element_within es x p.1 h)
 
-pub marks_meet : (bits others : List Bool) (es fs : List ℕ) → Marks bits es → Marks others fs → list_all (λ e. nat_lt e most) es ≡ true → meets bits others ≡ share es fs
+pub marks_meet : (bits others : List Bool) (es fs : List ℕ) → Marks bits es → Marks others fs → list_all (λ e. nat_lt e most_elements) es ≡ true → meets bits others ≡ share es fs
 marks_meet bits others es fs m n below =
     same_tests (meets bits others) (share es fs)
     (λ e.
     let r = met_at bits others e in
-    let long : length bits ≡ most = m.long in
+    let long : length bits ≡ most_elements = m.long in
     let i : ℕ = r.at in
     let low : i < length bits = bit_within bits r.at r.here in
-    let inside : i < most = omega arith in
+    let inside : i < most_elements = omega arith in
     at_shared es fs r.at (sym (m.each i inside) ∙ r.here) (sym (n.each i inside) ∙ r.there))
     (λ e.
     let r = shared_at es fs e in
-    let inside : r.at < most = element_within es r.at below r.here in
+    let inside : r.at < most_elements = element_within es r.at below r.here in
     at_met bits others r.at (m.each r.at inside ∙ r.here) (n.each r.at inside ∙ r.there))
 
--- ---- marks of one more view
-
-pub none_marked_yet : (views : List Strided) (marks : List (List Bool)) → marks ≡ [] → MarkedUpTo 0 marks views
-none_marked_yet views marks e = record { long = ap length e; each = λ i h. absurd (omega arith); lawful = λ i h. absurd (omega arith) }
+-- ---- outlines and marks
 
 at_end : {A : Type 0} (xs : List A) (x d : A) → get_or (xs ++ x ∷ []) (length xs) d ≡ x
 at_end [] x d = refl
@@ -114,17 +109,58 @@ next_too P n below here i h =
       | false ↦ λ e. let le : n ≤ i = ltb-false i n e in subst P (let same : n ≡ i = omega arith in same) here
     ] refl
 
-pub one_more_marked : (views : List Strided) (marks : List (List Bool)) (i : ℕ) (v : Strided) (row : List Bool)
-    → view_at views i ≡ v → is_view v ≡ true → Marks row (elements v) → MarkedUpTo i marks views → MarkedUpTo (i + 1) (marks ++ row ∷ []) views
-one_more_marked views marks i v row here law m known =
-    let long : length marks ≡ i = known.long in
+pub no_outline_yet : (views : List Strided) (outlines : List Outline) → outlines ≡ [] → AreOutlines 0 outlines views
+no_outline_yet views outlines e = record { long = ap length e; each = λ i h. absurd (omega arith) }
+
+pub one_more_outline : (views : List Strided) (outlines : List Outline) (i : ℕ) (v : Strided) (o : Outline) → view_at views i ≡ v → IsOutline o v → AreOutlines i outlines views
+    → AreOutlines (i + 1) (outlines ++ o ∷ []) views
+one_more_outline views outlines i v o here is known =
+    let long : length outlines ≡ i = known.long in
     record {
-      long = let l = length-append marks (row ∷ []) in omega arith;
-      each = next_too (λ k. Marks (get_or (marks ++ row ∷ []) k []) (elements (view_at views k))) i
-          (λ k h. subst (λ r. Marks r (elements (view_at views k))) (sym (before_end marks row [] k (omega arith))) (known.each k h))
-          (subst (λ r. Marks r (elements (view_at views i))) (sym (ap (λ n. get_or (marks ++ row ∷ []) n []) (sym long) ∙ at_end marks row [])) (subst (λ w. Marks row (elements w)) (sym here) m));
-      lawful = next_too (λ k. is_view (view_at views k) ≡ true) i known.lawful (ap is_view here ∙ law);
+      long = let l = length-append outlines (o ∷ []) in omega arith;
+      each = next_too (λ k. (d : Outline) → IsOutline (get_or (outlines ++ o ∷ []) k d) (view_at views k)) i
+          (λ k h d. subst (λ x. IsOutline x (view_at views k)) (sym (before_end outlines o d k (omega arith))) (known.each k h d))
+          (λ d. subst (λ x. IsOutline x (view_at views i)) (sym (ap (λ n. get_or (outlines ++ o ∷ []) n d) (sym long) ∙ at_end outlines o d)) (subst (IsOutline o) (sym here) is));
     }
+
+pub outline_there : (views : List Strided) (outlines : List Outline) (n i : ℕ) (o : Outline) (v : Strided) → AreOutlines n outlines views → i < n → o ≡ get_or outlines i o → view_at views i ≡ v → IsOutline o v
+outline_there views outlines n i o v known h e here = subst (IsOutline o) here (subst (λ x. IsOutline x (view_at views i)) (sym e) (known.each i h o))
+
+-- no view is marked
+pub none_marked : (marks : List (Option (List Bool))) (views : List Strided) → length marks ≡ length views → ((i : ℕ) → get_or marks i None ≡ None) → AreMarks marks views
+none_marked marks views long none = record { long = long; each = λ i h row e. absurd (let f : None ≡ Some row = sym (none i) ∙ e in cc) }
+
+pub none_more : (marks : List (Option (List Bool))) → ((i : ℕ) → get_or marks i None ≡ None) → (i : ℕ) → get_or (marks ++ None ∷ []) i None ≡ None
+none_more [] none zero = refl
+none_more [] none (suc i) = refl
+none_more (m ∷ marks) none zero = none 0
+none_more (m ∷ marks) none (suc i) = none_more marks (λ k. none (suc k)) i
+
+pub marks_more : (marks : List (Option (List Bool))) (views : List Strided) (at : ℕ) (row : List Bool) → AreMarks marks views → at < length views → Marks row (elements (view_at views at)) → AreMarks (set marks at (Some row)) views
+marks_more marks views at row known h m =
+    let long : length marks ≡ length views = known.long in
+    record {
+      long = length-set marks at (Some row) ∙ known.long;
+      each = λ i l r e.
+          elim (i == at) as (λ b. (i == at) ≡ b → Marks r (elements (view_at views i))) [
+            | true ↦ λ f.
+                let same : i ≡ at = eqb-true i at f in
+                let found : Some row ≡ Some r = sym (get_or-set_same marks at (Some row) None (omega arith)) ∙ ap (λ k. get_or (set marks at (Some row)) k None) (sym same) ∙ e in
+                let rows : row ≡ r = cc in
+                subst (λ x. Marks x (elements (view_at views i))) rows (subst (λ k. Marks row (elements (view_at views k))) (sym same) m)
+            | false ↦ λ f. known.each i l r (sym (get_or-set_other marks at i (Some row) None (λ z. let z' : i ≡ at = z in eqb-false i at f z')) ∙ e)
+          ] refl;
+    }
+
+pub some_there : (marks : List (Option (List Bool))) (at : ℕ) (row : List Bool) → at < length marks → IsSome (get_or (set marks at (Some row)) at None)
+some_there marks at row h = subst IsSome (sym (get_or-set_same marks at (Some row) None h)) (search rules)
+
+pub some_others : (marks : List (Option (List Bool))) (at : ℕ) (row : List Bool) → at < length marks → (i : ℕ) → IsSome (get_or marks i None) → IsSome (get_or (set marks at (Some row)) i None)
+some_others marks at row h i s =
+    elim (i == at) as (λ b. (i == at) ≡ b → IsSome (get_or (set marks at (Some row)) i None)) [
+      | true ↦ λ f. subst (λ k. IsSome (get_or (set marks at (Some row)) k None)) (let z : at ≡ i = sym (eqb-true i at f) in z) (some_there marks at row h)
+      | false ↦ λ f. subst IsSome (sym (get_or-set_other marks at i (Some row) None (λ z. let z' : i ≡ at = z in eqb-false i at f z'))) s
+    ] refl
 
 -- ---- one row
 
@@ -177,7 +213,7 @@ row_whole v views i row end known = by_places (overlap v) row views _ known.long
 
 -- ---- a pair
 
-any_default : {A : Type 0} (xs : List A) (i : ℕ) (d e : A) → i < length xs → get_or xs i d ≡ get_or xs i e
+pub any_default : {A : Type 0} (xs : List A) (i : ℕ) (d e : A) → i < length xs → get_or xs i d ≡ get_or xs i e
 any_default [] i d e h = absurd (omega arith)
 any_default (x ∷ xs) zero d e h = refl
 any_default (x ∷ xs) (suc i) d e h = any_default xs i d e (omega arith)
@@ -185,22 +221,25 @@ any_default (x ∷ xs) (suc i) d e h = any_default xs i d e (omega arith)
 pub view_there : (views : List Strided) (i : ℕ) (v : Strided) → i < length views → v ≡ get_or views i v → view_at views i ≡ v
 view_there views i v h e = any_default views i _ v h ∙ sym e
 
-pub marks_there : (views : List Strided) (marks : List (List Bool)) (n i : ℕ) (row : List Bool) → MarkedUpTo n marks views → i < n → row ≡ get_or marks i row → row ≡ get_or marks i []
-marks_there views marks n i row known h e = let long : length marks ≡ n = known.long in e ∙ any_default marks i row [] (omega arith)
-
-pub as_long : (views : List Strided) (marks : List (List Bool)) (n i j : ℕ) (row other : List Bool) → MarkedUpTo n marks views → i < n → j < n
-    → row ≡ get_or marks i row → other ≡ get_or marks j other → length row ≡ length other
-as_long views marks n i j row other known li lj e f =
-    ap length (marks_there views marks n i row known li e) ∙ (known.each i li).long
-    ∙ sym (ap length (marks_there views marks n j other known lj f) ∙ (known.each j lj).long)
-
-pub marks_decide : (views : List Strided) (marks : List (List Bool)) (n i j : ℕ) (b : Bool) → MarkedUpTo n marks views → i < n → j < n
-    → (view_at views i).base ≡ (view_at views j).base → b ≡ meets (get_or marks i []) (get_or marks j []) → overlap (view_at views i) (view_at views j) ≡ b
-marks_decide views marks n i j b known li lj same e =
+pub marks_decide : (views : List Strided) (marks : List (Option (List Bool))) (i j : ℕ) (row other : List Bool) → AreMarks marks views → i < length views → j < length views
+    → is_view (view_at views i) ≡ true → (view_at views i).base ≡ (view_at views j).base → get_or marks i None ≡ Some row → get_or marks j None ≡ Some other
+    → meets row other ≡ overlap (view_at views i) (view_at views j)
+marks_decide views marks i j row other known li lj law same e f =
     let v = view_at views i in
     let w = view_at views j in
-    ap₂ (λ x y. x && y) (eq-eqb v.base w.base same)
-    (sym (e ∙ marks_meet (get_or marks i []) (get_or marks j []) (elements v) (elements w) (known.each i li) (known.each j lj) (elements_below v (known.lawful i li))))
+    sym (ap₂ (λ x y. x && y) (eq-eqb v.base w.base same) (sym (marks_meet row other (elements v) (elements w) (known.each i li row e) (known.each j lj other f) (elements_below v law))))
+
+pub rows_long : (views : List Strided) (marks : List (Option (List Bool))) (i j : ℕ) (row other : List Bool) → AreMarks marks views → i < length views → j < length views
+    → get_or marks i None ≡ Some row → get_or marks j None ≡ Some other → length row ≡ length other
+rows_long views marks i j row other known li lj e f = (known.each i li row e).long ∙ sym (known.each j lj other f).long
+
+share_turned : (es fs : List ℕ) → share es fs ≡ share fs es
+share_turned es fs =
+    same_tests (share es fs) (share fs es) (λ e. let r = shared_at es fs e in at_shared fs es r.at r.there r.here) (λ e. let r = shared_at fs es e in at_shared es fs r.at r.there r.here)
+
+pub overlap_turned : (v w : Strided) → overlap v w ≡ overlap w v
+overlap_turned v w =
+    ap₂ (λ x y. x && y) (same_tests (v.base == w.base) (w.base == v.base) (λ e. eq-eqb w.base v.base (sym (eqb-true v.base w.base e))) (λ e. eq-eqb v.base w.base (sym (eqb-true w.base v.base e)))) (share_turned (elements v) (elements w))
 
 -- ---- all rows
 
@@ -228,3 +267,10 @@ row_there views rows a row e h = ap (λ rs. get_or rs a row) e ∙ map_at (λ v.
 
 pub bit_there : (views : List Strided) (v : Strided) (b : ℕ) → b < length views → get_or (map (overlap v) views) b false ≡ overlap v (view_at views b)
 bit_there views v b h = map_at (overlap v) views b _ false h
+
+-- a row that is there already
+pub earlier_row : (views : List Strided) (rows : List (List Bool)) (n a : ℕ) (row : List Bool) → rows ≡ map (λ v. map (overlap v) views) (take n views) → a < n → n ≤ length views
+    → get_or rows a row ≡ map (overlap (view_at views a)) views
+earlier_row views rows n a row e h l =
+    ap (λ rs. get_or rs a row) e ∙ map_at (λ v. map (overlap v) views) (take n views) a _ row (let t : length (take n views) ≡ n = length-take-le n views l in omega arith)
+    ∙ ap (λ v. map (overlap v) views) (get_or-take n views a _ h)

@@ -1,7 +1,9 @@
 pub mod Parts
 pub mod Marking
 pub mod Apart
-pub mod Ranges
 pub mod Spacing
+pub mod Smaller
+pub mod Columns
+pub mod Runs
 mod ClassesSeen
 mod ClassesMeet

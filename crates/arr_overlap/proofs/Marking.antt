@@ -1,35 +1,35 @@
 -- Elements that are marked one after another.
-use Rattle.std.proofs.Common.{◌≡◌, ℕ, zero, suc, ◌<◌, ℤ, pos, negsuc, List, [], ◌∷◌, ◌++◌, Bool, true, false, length, map, get_or, set, replicate, refl, ap, ap₂, sym, ◌∙◌, arith, append_assoc, append-nil}
+use Rattle.std.proofs.Common.{◌≡◌, ℕ, zero, suc, ◌+◌, ◌<◌, ℤ, pos, negsuc, List, [], ◌∷◌, ◌++◌, Bool, true, false, length, map, get_or, set, replicate, refl, ap, ap₂, sym, ◌∙◌, arith, append_assoc, append-nil}
 use Rattle.std.specs.Prelude.{◌==◌, ◌&&◌, ◌||◌, nat_eq, nat_lt}
-use Rattle.std.specs.List.{list_all}
+use Rattle.std.specs.List.{list_all, range_with_len}
 use Rattle.std.proofs.lemmas.Bool.{and_parts, and_from, eqb-true, eqb-false, eq-eqb, ne_eqb, ltb-true, false≢true}
-use Rattle.std.proofs.lemmas.List.{get_or-set_same, get_or-set_other, length-map, length-set, length-replicate}
+use Rattle.std.proofs.lemmas.List.{get_or-set_same, get_or-set_other, length-set, length-replicate}
 use Rattle.std.proofs.lemmas.List.Folds.{list_any-append}
 use Rattle.arr_view.specs.Strided.{Strided}
-use Rattle.arr_view.specs.Views.{elements, has, is_place, is_view, overlap, places, positions, repeated, repeats, share, to_place}
-use Rattle.arr_view.proofs.Checks.{lawful, same_rank}
-use Rattle.arr_view.proofs.Places.{length-places}
-use Rattle.arr_overlap.specs.Marks.{Marks, most}
+use Rattle.arr_view.specs.Views.{elements, has, is_consecutive, is_place, is_view, overlap, places, positions, repeated, repeats, share, to_place, most_elements}
+use Rattle.arr_view.proofs.Checks.{lawful}
+use Rattle.arr_view.proofs.Known.{same_lists-true}
+use Rattle.arr_overlap.specs.Marks.{Marks}
 
 -- ---- elements lie below the bound
 
-all_below : (zs : List ℤ) → list_all is_place zs ≡ true → list_all (λ e. nat_lt e most) (map to_place zs) ≡ true
+all_below : (zs : List ℤ) → list_all is_place zs ≡ true → list_all (λ e. nat_lt e most_elements) (map to_place zs) ≡ true
 all_below [] h = refl
-all_below (pos n ∷ zs) h = let p = and_parts (nat_lt n most) _ h in and_from (nat_lt n most) _ p.0 (all_below zs p.1)
+all_below (pos n ∷ zs) h = let p = and_parts (nat_lt n most_elements) _ h in and_from (nat_lt n most_elements) _ p.0 (all_below zs p.1)
 all_below (negsuc n ∷ zs) h = absurd (false≢true h)
 
 at_seam : (test : ℕ → Bool) (front rest : List ℕ) (x : ℕ) → list_all test (front ++ x ∷ rest) ≡ true → test x ≡ true
 at_seam test [] rest x h = (and_parts (test x) _ h).0
 at_seam test (y ∷ front) rest x h = at_seam test front rest x (and_parts (test y) _ h).1
 
-pub elements_below : (v : Strided) → is_view v ≡ true → list_all (λ e. nat_lt e most) (elements v) ≡ true
+pub elements_below : (v : Strided) → is_view v ≡ true → list_all (λ e. nat_lt e most_elements) (elements v) ≡ true
 unfolding elements
 elements_below v law = all_below (places v.lengths v.strides (pos v.start)) (lawful v law).inside
 
-pub below : (v : Strided) (front rest : List ℕ) (x : ℕ) → is_view v ≡ true → elements v ≡ front ++ x ∷ rest → x < most
+pub below : (v : Strided) (front rest : List ℕ) (x : ℕ) → is_view v ≡ true → elements v ≡ front ++ x ∷ rest → x < most_elements
 unfolding elements
 below v front rest x law whole =
-    ltb-true x most (at_seam (λ e. nat_lt e most) front rest x (ap (list_all (λ e. nat_lt e most)) (sym whole) ∙ all_below (places v.lengths v.strides (pos v.start)) (lawful v law).inside))
+    ltb-true x most_elements (at_seam (λ e. nat_lt e most_elements) front rest x (ap (list_all (λ e. nat_lt e most_elements)) (sym whole) ∙ all_below (places v.lengths v.strides (pos v.start)) (lawful v law).inside))
 
 -- ---- marks
 
@@ -38,8 +38,8 @@ none_marked zero x = refl
 none_marked (suc n) zero = refl
 none_marked (suc n) (suc x) = none_marked n x
 
-pub marks_none : (bits : List Bool) → bits ≡ replicate most false → Marks bits []
-marks_none bits e = record { long = ap length e ∙ length-replicate most false; each = λ x h. ap (λ b. get_or b x false) e ∙ none_marked most x }
+pub marks_none : (bits : List Bool) → bits ≡ replicate most_elements false → Marks bits []
+marks_none bits e = record { long = ap length e ∙ length-replicate most_elements false; each = λ x h. ap (λ b. get_or b x false) e ∙ none_marked most_elements x }
 
 has_more : (xs : List ℕ) (x y : ℕ) → has (xs ++ x ∷ []) y ≡ (has xs y || (y == x))
 has_more xs x y = list_any-append (nat_eq y) xs (x ∷ []) ∙ ap (λ b. has xs y || b) (or_false (y == x))
@@ -56,9 +56,9 @@ or_none : (b : Bool) → (b || false) ≡ b
 or_none true = refl
 or_none false = refl
 
-pub marks_more : (bits : List Bool) (xs : List ℕ) (x : ℕ) → Marks bits xs → x < most → Marks (set bits x true) (xs ++ x ∷ [])
+pub marks_more : (bits : List Bool) (xs : List ℕ) (x : ℕ) → Marks bits xs → x < most_elements → Marks (set bits x true) (xs ++ x ∷ [])
 marks_more bits xs x marks h =
-    let long : length bits ≡ most = marks.long in
+    let long : length bits ≡ most_elements = marks.long in
     record {
       long = length-set bits x true ∙ marks.long;
       each = λ y k.
@@ -125,12 +125,14 @@ at_end all front iterator whole none = whole ∙ ap (λ r. front ++ r) none ∙ 
 pub meet_on : (v w : Strided) (b : Bool) → v.base ≡ w.base → share (elements v) (elements w) ≡ b → overlap v w ≡ b
 meet_on v w b same e = ap₂ (λ x y. x && y) (eq-eqb v.base w.base same) e
 
--- one position has no second
-single : (xs : List ℕ) → length xs ≡ 1 → repeated xs ≡ false
-single [] e = refl
-single (x ∷ []) e = refl
-single (x ∷ y ∷ xs) e = absurd (omega arith)
+-- numbers in a row don't repeat
+not_before : (n a x : ℕ) → x < a → has (range_with_len a n) x ≡ false
+not_before zero a x h = refl
+not_before (suc n) a x h = ap₂ (λ p q. p || q) (ne_eqb x a (λ z. let z' : x ≡ a = z in omega arith)) (not_before n (a + 1) x (omega arith))
 
-pub lone : (v : Strided) → is_view v ≡ true → positions v.lengths ≡ 1 → repeats v ≡ false
-unfolding elements
-lone v law one = single (elements v) (length-map (places v.lengths v.strides (pos v.start)) to_place ∙ length-places v.lengths v.strides (pos v.start) (same_rank v law) ∙ one)
+row_fresh : (n a : ℕ) → repeated (range_with_len a n) ≡ false
+row_fresh zero a = refl
+row_fresh (suc n) a = ap₂ (λ p q. p || q) (not_before n (a + 1) a (omega arith)) (row_fresh n (a + 1))
+
+pub gapless_fresh : (v : Strided) → is_consecutive v ≡ true → repeats v ≡ false
+gapless_fresh v e = ap repeated (same_lists-true (elements v) (range_with_len v.start (positions v.lengths)) e) ∙ row_fresh (positions v.lengths) v.start

@@ -1,35 +1,24 @@
 -- The elements of a view tell its parts.
-use Rattle.std.proofs.Common.{◌≡◌, ℕ, zero, suc, ℤ, pos, negsuc, ◌+ℤ◌, List, [], ◌∷◌, ◌++◌, Bool, true, false, length, map, refl, ap, ap₂, sym, ◌∙◌, subst, arith}
+use Rattle.std.proofs.Common.{◌≡◌, ℕ, zero, suc, ℤ, pos, List, [], ◌∷◌, Bool, true, false, map, refl, ap, ap₂, sym, ◌∙◌, subst, arith}
 use Rattle.std.specs.Prelude.{◌&&◌, ◌==◌, not, ◌||◌, nat_le}
 use Rattle.std.specs.List.{list_all}
-use Rattle.std.proofs.lemmas.Int.{ints}
-use Rattle.std.proofs.lemmas.Bool.{and_parts, and_from, eqb-true, eq-eqb, false≢true}
+use Rattle.std.proofs.lemmas.Bool.{lt-leb, and_left, and_parts, and_from, eqb-true, eq-eqb, ne_eqb, false≢true}
 use Rattle.std.specs.Cmp.Lexicographic.{pointwise, same_text}
 use Rattle.std.specs.Cmp.Rules.{signed_items}
 use Rattle.std.specs.Ordering.{int_eq}
 use Rattle.std.specs.Prelude.{nat_eq}
 use Rattle.std.proofs.lemmas.Slice.Eq.{bytes_eq-Decides}
 use Rattle.arr_view.specs.Strided.{Strided}
-use Rattle.arr_view.specs.Views.{places, elements, is_place, is_zero, is_view, strides_kept, to_place, same_lists, identical}
+use Rattle.arr_view.specs.Views.{places, elements, is_zero, is_view, strides_kept, to_place, same_lists, identical}
 use Rattle.arr_view.proofs.Checks.{lawful}
-use Rattle.arr_view.proofs.Strides.{as_many}
-use Rattle.arr_view.proofs.Places.{length-places}
+use Rattle.arr_view.proofs.Known.{same_lists-same, same_lists-true, same_places, same_tests, same_way, is_zero-true}
+use Rattle.arr_overlap.specs.Alike.{same_parts, same_strides}
 
 -- the same base, start, lengths and strides
 abbrev pub alike : Strided → Strided → Bool
 alike v w = (v.base == w.base) && ((v.start == w.start) && (pointwise nat_eq v.lengths w.lengths && pointwise int_eq v.strides w.strides))
 
 -- ---- tests and equations
-
-pub same_lists-true : (xs ys : List ℕ) → same_lists xs ys ≡ true → xs ≡ ys
-same_lists-true [] [] e = refl
-same_lists-true (x ∷ xs) (y ∷ ys) e = let p = and_parts (x == y) _ e in ap₂ (λ a b. a ∷ b) (eqb-true x y p.0) (same_lists-true xs ys p.1)
-same_lists-true [] (y ∷ ys) e = absurd (false≢true e)
-same_lists-true (x ∷ xs) [] e = absurd (false≢true e)
-
-pub same_lists-same : (xs : List ℕ) → same_lists xs xs ≡ true
-same_lists-same [] = refl
-same_lists-same (x ∷ xs) = and_from (x == x) _ (eq-eqb x x refl) (same_lists-same xs)
 
 lists_true : (xs ys : List ℕ) → pointwise nat_eq xs ys ≡ true → xs ≡ ys
 lists_true xs ys e = same_text xs ys (sym e)
@@ -42,73 +31,6 @@ ints_true xs ys e = (signed_items xs ys).0 e
 
 ints_same : (xs ys : List ℤ) → xs ≡ ys → pointwise int_eq xs ys ≡ true
 ints_same xs ys e = (signed_items xs ys).1 e
-
--- ---- from places to their start and strides
-
--- a start and strides
-pub record SameWay (ss ts : List ℤ) (y z : ℤ) : Type 0 where
-  pub start : y ≡ z
-  pub strides : ss ≡ ts
-
-fronts : (us vs cs ds : List ℤ) → length us ≡ length vs → us ++ cs ≡ vs ++ ds → (us ≡ vs) × (cs ≡ ds)
-fronts [] [] cs ds l e = (refl, e)
-fronts (a ∷ us) (b ∷ vs) cs ds l e =
-    let head : a ≡ b = cc in
-    let rest : us ++ cs ≡ vs ++ ds = cc in
-    let ih = fronts us vs cs ds (omega arith) rest in
-    (ap₂ (λ x xs. x ∷ xs) head ih.0, ih.1)
-fronts [] (b ∷ vs) cs ds l e = absurd (omega arith)
-fronts (a ∷ us) [] cs ds l e = absurd (omega arith)
-
-is_zero-true : (s : ℤ) → is_zero s ≡ true → s ≡ pos 0
-is_zero-true (pos zero) e = refl
-is_zero-true (pos (suc n)) e = absurd (false≢true e)
-is_zero-true (negsuc n) e = absurd (false≢true e)
-
-pub same_way : (ns : List ℕ) (ss ts : List ℤ) (y z : ℤ) → list_all (nat_le 1) ns ≡ true → strides_kept ns ss ≡ true → strides_kept ns ts ≡ true → places ns ss y ≡ places ns ts z → SameWay ss ts y z
-same_way [] [] [] y z one kept kept' e = record { start = cc; strides = refl }
-same_way [] [] (t ∷ ts) y z one kept kept' e = absurd (false≢true kept')
-same_way [] (s ∷ ss) ts y z one kept kept' e = absurd (false≢true kept)
-same_way (n ∷ ns) [] ts y z one kept kept' e = absurd (false≢true kept)
-same_way (n ∷ ns) (s ∷ ss) [] y z one kept kept' e = absurd (false≢true kept')
-same_way (zero ∷ ns) (s ∷ ss) (t ∷ ts) y z one kept kept' e = absurd (false≢true one)
-same_way (suc zero ∷ ns) (s ∷ ss) (t ∷ ts) y z one kept kept' e =
-    let k = and_parts (is_zero s) _ kept in
-    let k' = and_parts (is_zero t) _ kept' in
-    let long : length (places ns ss y) ≡ length (places ns ts z) = length-places ns ss y (as_many ns ss k.1) ∙ sym (length-places ns ts z (as_many ns ts k'.1)) in
-    let inner = same_way ns ss ts y z one k.1 k'.1 (fronts (places ns ss y) (places ns ts z) _ _ long e).0 in
-    record { start = inner.start; strides = ap₂ (λ a us. a ∷ us) (is_zero-true s k.0 ∙ sym (is_zero-true t k'.0)) inner.strides }
-same_way (suc (suc n) ∷ ns) (s ∷ ss) (t ∷ ts) y z one kept kept' e =
-    let rest = (and_parts (nat_le 1 (suc (suc n))) (list_all (nat_le 1) ns) one).1 in
-    let k = and_parts (not (suc (suc n) == 1) || is_zero s) _ kept in
-    let k' = and_parts (not (suc (suc n) == 1) || is_zero t) _ kept' in
-    let long : (a b : ℤ) → length (places ns ss a) ≡ length (places ns ts b) =
-    λ a b. length-places ns ss a (as_many ns ss k.1) ∙ sym (length-places ns ts b (as_many ns ts k'.1)) in
-    let first = fronts (places ns ss y) (places ns ts z) _ _ (long y z) e in
-    let second = fronts (places ns ss (y +ℤ s)) (places ns ts (z +ℤ t)) _ _ (long (y +ℤ s) (z +ℤ t)) first.1 in
-    let here = same_way ns ss ts y z rest k.1 k'.1 first.0 in
-    let next = same_way ns ss ts (y +ℤ s) (z +ℤ t) rest k.1 k'.1 second.0 in
-    let start : y ≡ z = here.start in
-    let moved : y +ℤ s ≡ z +ℤ t = next.start in
-    record { start = start; strides = ap₂ (λ a us. a ∷ us) (let same : s ≡ t = omega (arith, ints) in same) here.strides }
-
--- ---- from elements to places
-
-to_place-same : (x y : ℤ) → is_place x ≡ true → is_place y ≡ true → to_place x ≡ to_place y → x ≡ y
-to_place-same (pos m) (pos n) p q e = ap pos e
-to_place-same (negsuc m) y p q e = absurd (false≢true p)
-to_place-same (pos m) (negsuc n) p q e = absurd (false≢true q)
-
-same_places : (xs ys : List ℤ) → list_all is_place xs ≡ true → list_all is_place ys ≡ true → map to_place xs ≡ map to_place ys → xs ≡ ys
-same_places [] [] p q e = refl
-same_places (x ∷ xs) (y ∷ ys) p q e =
-    let a = and_parts (is_place x) _ p in
-    let b = and_parts (is_place y) _ q in
-    let head : to_place x ≡ to_place y = cc in
-    let rest : map to_place xs ≡ map to_place ys = cc in
-    ap₂ (λ c cs. c ∷ cs) (to_place-same x y a.0 b.0 head) (same_places xs ys a.1 b.1 rest)
-same_places [] (y ∷ ys) p q e = absurd (cc)
-same_places (x ∷ xs) [] p q e = absurd (cc)
 
 -- ---- the two tests agree
 
@@ -141,11 +63,64 @@ identical_alike v w lv lw e =
     and_from (v.base == w.base) _ a.0 (and_from (v.start == w.start) _ (eq-eqb v.start w.start start)
     (and_from (pointwise nat_eq v.lengths w.lengths) _ (lists_same v.lengths w.lengths (sym lengths)) (ints_same v.strides w.strides way.strides)))
 
-same_tests : (a b : Bool) → (a ≡ true → b ≡ true) → (b ≡ true → a ≡ true) → a ≡ b
-same_tests true b f g = sym (f refl)
-same_tests false true f g = g refl
-same_tests false false f g = refl
-
 -- two views are identical exactly where their parts are the same
 pub parts_decide : (v w : Strided) → is_view v ≡ true → is_view w ≡ true → alike v w ≡ identical v w
 parts_decide v w lv lw = same_tests (alike v w) (identical v w) (alike_identical v w) (identical_alike v w lv lw)
+
+-- ---- said by the parts
+
+strides_agree : (ns : List ℕ) (ss ts : List ℤ) → list_all (nat_le 1) ns ≡ true → strides_kept ns ss ≡ true → strides_kept ns ts ≡ true → same_strides ns ss ts ≡ true → ss ≡ ts
+strides_agree [] [] [] some kept kept' same = refl
+strides_agree [] [] (t ∷ ts) some kept kept' same = absurd (false≢true kept')
+strides_agree [] (s ∷ ss) ts some kept kept' same = absurd (false≢true kept)
+strides_agree (n ∷ ns) [] ts some kept kept' same = absurd (false≢true kept)
+strides_agree (n ∷ ns) (s ∷ ss) [] some kept kept' same = absurd (false≢true kept')
+strides_agree (zero ∷ ns) (s ∷ ss) (t ∷ ts) some kept kept' same = absurd (false≢true some)
+strides_agree (suc zero ∷ ns) (s ∷ ss) (t ∷ ts) some kept kept' same =
+    let k = and_parts (is_zero s) _ kept in
+    let k' = and_parts (is_zero t) _ kept' in
+    ap₂ (λ a us. a ∷ us) (is_zero-true s k.0 ∙ sym (is_zero-true t k'.0)) (strides_agree ns ss ts some k.1 k'.1 same)
+strides_agree (suc (suc n) ∷ ns) (s ∷ ss) (t ∷ ts) some kept kept' same =
+    let k = and_parts (not (suc (suc n) == 1) || is_zero s) _ kept in
+    let k' = and_parts (not (suc (suc n) == 1) || is_zero t) _ kept' in
+    let p = and_parts (nat_le (suc (suc n)) 1 || int_eq s t) _ same in
+    let long : nat_le (suc (suc n)) 1 ≡ false = lt-leb (suc (suc n)) 1 (omega arith) in
+    let here : s ∷ [] ≡ t ∷ [] = ints_true (s ∷ []) (t ∷ []) (and_from (int_eq s t) true (sym (ap (λ b. b || int_eq s t) long) ∙ p.0) refl) in
+    ap₂ (λ a us. a ∷ us) (let e : s ≡ t = cc in e) (strides_agree ns ss ts (and_parts (nat_le 1 (suc (suc n))) _ some).1 k.1 k'.1 p.1)
+
+or_true : (b : Bool) → (b || true) ≡ true
+or_true true = refl
+or_true false = refl
+
+same_strides-same : (ns : List ℕ) (ss : List ℤ) → same_strides ns ss ss ≡ true
+same_strides-same [] ss = refl
+same_strides-same (n ∷ ns) [] = refl
+same_strides-same (n ∷ ns) (s ∷ ss) =
+    let here = and_parts (int_eq s s) true (ints_same (s ∷ []) (s ∷ []) refl) in
+    and_from (nat_le n 1 || int_eq s s) (same_strides ns ss ss) (ap (λ b. nat_le n 1 || b) here.0 ∙ or_true (nat_le n 1)) (same_strides-same ns ss)
+
+parts_alike : (v w : Strided) → is_view v ≡ true → is_view w ≡ true → same_parts v w ≡ true → alike v w ≡ true
+parts_alike v w lv lw e =
+    let a = and_parts (v.base == w.base) _ e in
+    let b = and_parts (v.start == w.start) _ a.1 in
+    let c = and_parts (same_lists v.lengths w.lengths) _ b.1 in
+    let p = lawful v lv in
+    let lengths : v.lengths ≡ w.lengths = same_lists-true v.lengths w.lengths c.0 in
+    let kept : strides_kept v.lengths w.strides ≡ true = subst (λ ns. strides_kept ns w.strides ≡ true) (sym lengths) (lawful w lw).kept in
+    and_from (v.base == w.base) _ a.0 (and_from (v.start == w.start) _ b.0 (and_from (pointwise nat_eq v.lengths w.lengths) _ (lists_same v.lengths w.lengths lengths)
+    (ints_same v.strides w.strides (strides_agree v.lengths v.strides w.strides p.lengths p.kept kept c.1))))
+
+alike_parts : (v w : Strided) → alike v w ≡ true → same_parts v w ≡ true
+alike_parts v w e =
+    let a = and_parts (v.base == w.base) _ e in
+    let b = and_parts (v.start == w.start) _ a.1 in
+    let c = and_parts (pointwise nat_eq v.lengths w.lengths) _ b.1 in
+    and_from (v.base == w.base) _ a.0 (and_from (v.start == w.start) _ b.0
+    (and_from (same_lists v.lengths w.lengths) _ (subst (λ ns. same_lists v.lengths ns ≡ true) (lists_true v.lengths w.lengths c.0) (same_lists-same v.lengths))
+    (subst (λ ss. same_strides v.lengths v.strides ss ≡ true) (ints_true v.strides w.strides c.1) (same_strides-same v.lengths v.strides))))
+
+pub parts_said : (v w : Strided) → is_view v ≡ true → is_view w ≡ true → alike v w ≡ same_parts v w
+parts_said v w lv lw = same_tests (alike v w) (same_parts v w) (alike_parts v w) (parts_alike v w lv lw)
+
+pub other_base : (v w : Strided) → (v.base ≡ w.base → ⊥) → (identical v w ≡ false) × (same_parts v w ≡ false)
+other_base v w h = let e : (v.base == w.base) ≡ false = ne_eqb v.base w.base h in (and_left (v.base == w.base) _ e, and_left (v.base == w.base) _ e)

@@ -21,7 +21,7 @@ use Rattle.arr_overlap.specs.Filters.{divides, in_step, is_spaced}
 divides-true : (d n : ℕ) → divides d n ≡ true → d ∣ n
 divides-true d n e = dvd_of_mod-eq-zero d (eqb-true (n % d) 0 e)
 
-divides-from : (d n : ℕ) → d ∣ n → divides d n ≡ true
+pub divides-from : (d n : ℕ) → d ∣ n → divides d n ≡ true
 divides-from d n h = eq-eqb (n % d) 0 (mod-eq-zero_of_dvd d h)
 
 -- what divides the greatest common divisor divides both, and the other way round
@@ -70,10 +70,10 @@ divisor_end number ss i g done divisor =
 -- ---- places in step
 
 -- multiples of d added to both make them equal
-record Alike (d : ℕ) (y z : ℤ) : Type 0 where
-  more : ℕ
-  less : ℕ
-  same : y +ℤ pos (more * d) ≡ z +ℤ pos (less * d)
+pub record Alike (d : ℕ) (y z : ℤ) : Type 0 where
+  pub more : ℕ
+  pub less : ℕ
+  pub same : y +ℤ pos (more * d) ≡ z +ℤ pos (less * d)
 
 one_step : (d : ℕ) (s y z : ℤ) → divides d (unsigned_abs s) ≡ true → Alike d y z → Alike d (y +ℤ s) z
 one_step d (pos n) y z e h =
@@ -89,7 +89,7 @@ one_step d (negsuc n) y z e h =
     let same : y +ℤ pos (h.more * d) ≡ z +ℤ pos (h.less * d) = h.same in
     record { more = h.more + q; less = h.less; same = omega (arith, ints) }
 
-many_steps : (d i : ℕ) (s y z : ℤ) → divides d (unsigned_abs s) ≡ true → Alike d y z → Alike d (y +ℤ steps i s) z
+pub many_steps : (d i : ℕ) (s y z : ℤ) → divides d (unsigned_abs s) ≡ true → Alike d y z → Alike d (y +ℤ steps i s) z
 many_steps d zero s y z e h =
     let same : y ≡ y +ℤ pos 0 = omega (arith, ints) in
     subst (λ x. Alike d x z) same h

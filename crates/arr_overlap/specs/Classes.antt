@@ -1,8 +1,10 @@
 -- The classes of identical views, in the order of first sight.
-use Rattle.std.specs.Prelude.{◌≡◌, ℕ, ◌<◌, List, [], ◌∷◌, ◌++◌, Bool, true, cond, fold, get_or, length, map}
+use Rattle.std.specs.Prelude.{◌≡◌, ℕ, ◌<◌, List, [], ◌∷◌, ◌++◌, Bool, cond, fold, get_or, length, map, Option, Some, None}
 use Rattle.std.specs.List.{list_any}
 use Rattle.arr_view.specs.Strided.{Strided}
-use Rattle.arr_view.specs.Views.{elements, identical, is_view, overlap}
+use Rattle.arr_view.specs.Views.{elements, identical, overlap}
+use Rattle.arr_overlap.specs.declared.filters.Outline.{Outline}
+use Rattle.arr_overlap.specs.Filters.{IsOutline}
 use Rattle.arr_overlap.specs.Marks.{Marks}
 
 -- the view goes last, unless one that is identical to it is there
@@ -21,8 +23,12 @@ overlaps_among views = map (λ v. map (overlap v) views) views
 abbrev pub view_at : List Strided → ℕ → Strided
 view_at views i = get_or views i (record { base = 0; start = 0; lengths = []; strides = [] })
 
--- the rows mark the elements of the first so many views, one row a view
-pub record MarkedUpTo (count : ℕ) (marks : List (List Bool)) (views : List Strided) : Type 0 where
-  pub long : length marks ≡ count
-  pub each : (i : ℕ) → i < count → Marks (get_or marks i []) (elements (view_at views i))
-  pub lawful : (i : ℕ) → i < count → is_view (view_at views i) ≡ true
+-- the outlines are those of the first so many views
+pub record AreOutlines (count : ℕ) (outlines : List Outline) (views : List Strided) : Type 0 where
+  pub long : length outlines ≡ count
+  pub each : (i : ℕ) → i < count → (d : Outline) → IsOutline (get_or outlines i d) (view_at views i)
+
+-- where there is a row for a view, it marks the view's elements
+pub record AreMarks (marks : List (Option (List Bool))) (views : List Strided) : Type 0 where
+  pub long : length marks ≡ length views
+  pub each : (i : ℕ) → i < length views → (row : List Bool) → get_or marks i None ≡ Some row → Marks row (elements (view_at views i))

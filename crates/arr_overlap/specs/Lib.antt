@@ -1,3 +1,4 @@
+pub mod Alike
 pub mod Classes
 pub mod Marks
 pub mod Filters

@@ -1,4 +1,5 @@
 ghost use Rattle.std.specs.Prelude.{◌≡◌};
+ghost use Rattle.arr_overlap.specs.Alike.{same_parts};
 ghost use Rattle.arr_view.specs.Views.{identical};
 
 use arr_view::View;
@@ -8,7 +9,8 @@ use arr_view::View;
 /// Two views are identical exactly where their bases, starts and shapes agree and their strides agree in each dimension longer
 /// than 1; the other strides are kept as 0, so the parts are compared as they are (docs/PLANS.md, "Views").
 pub fn identical(a: &View, b: &View) -> bool
-    ensures { result ≡ identical a.now b.now }
+    ensures value { result ≡ identical a.now b.now }
+    ensures parts { result ≡ same_parts a.now b.now }
 {
     if a.base() != b.base() {
         return false;

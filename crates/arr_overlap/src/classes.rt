@@ -1,10 +1,10 @@
 //! Classes of identical views, counted from 0 in the order of first sight.
-ghost use Rattle.std.specs.Prelude.{◌<◌, ◌≡◌, ◌≤◌, IfOk, IsTrue, length, map, position};
-ghost use Rattle.arr_view.specs.Views.{identical, is_view, overlap};
-ghost use Rattle.arr_overlap.specs.Classes.{firsts, overlaps_among, view_at, MarkedUpTo};
+ghost use Rattle.std.specs.Prelude.{ℕ, ◌<◌, ◌≡◌, ◌≤◌, IfOk, OnOk, IsSome, None, length, map, position, get_or, take};
+ghost use Rattle.arr_view.specs.Views.{identical, overlap};
+ghost use Rattle.arr_overlap.specs.Classes.{firsts, overlaps_among, view_at, AreMarks, AreOutlines};
 
 use crate::NoMemory;
-use crate::filters::decided;
+use crate::filters::{Outline, outline_of, told_apart};
 use crate::meeting::marked;
 use arr_sets::Bits;
 use arr_view::View;
@@ -34,50 +34,105 @@ impl Model for Classes {
     ghost invariant = { λ c. (length c.views.keys ≤ 1048576) × (list_all is_view c.views.keys ≡ true) × (c.rows.items ≡ overlaps_among c.views.keys) };
 }
 
-/// An equal view.
-fn copied(view: &View) -> View
-    ensures value { result ≡ view.now }
-    ensures lawful { IsTrue (is_view result) }
+/// Where the elements of each view lie.
+fn all_outlines(alloc: Global, views: &[View]) -> Result<Vec<Outline>, NoMemory>
+    ensures { IfOk result (λ outlines. AreOutlines (length views.now) outlines.items views.now) }
 {
-    let _base = view.base();
-    view.copied()
+    let mut outlines = Vec::new(alloc);
+    for view in views {
+        outlines.push(outline_of(view))?;
+    }
+    Ok(outlines)
 }
 
-/// The elements of each view, marked in a row of bits.
-fn all_marked(alloc: Global, views: &[View]) -> Result<Vec<Bits>, NoMemory>
-    ensures { IfOk result (λ marks. MarkedUpTo (length views.now) marks.items views.now) }
+/// Rows for so many views, none of them marked yet.
+fn unmarked(alloc: Global, views: &[View]) -> Result<Vec<Option<Bits>>, NoMemory>
+    ensures { IfOk result (λ marks. AreMarks marks.items views.now) }
 {
     let mut marks = Vec::new(alloc);
-    for view in views {
-        let _base = view.base();
-        marks.push(marked(alloc, view)?)?;
+    for _view in views {
+        marks.push(None)?;
     }
     Ok(marks)
 }
 
-/// Whether the views at two places overlap.
-fn met(views: &[View], marks: &[Bits], at: usize, other: usize) -> bool
+/// Marks the elements of the view at a place, unless they are marked.
+fn mark(
+    alloc: Global,
+    views: &[View],
+    marks: &mut Vec<Option<Bits>>,
+    at: usize,
+) -> Result<(), NoMemory>
     requires at { at < length views.now }
-    requires other { other < length views.now }
-    requires marked { MarkedUpTo (length views.now) marks.now views.now }
-    ensures { result ≡ overlap (view_at views.now at) (view_at views.now other) }
+    requires marked { AreMarks marks.old.items views.now }
+    ensures marked { OnOk result (AreMarks marks.new.items views.now) }
+    ensures there { OnOk result (IsSome (get_or marks.new.items at None)) }
+    ensures others { OnOk result ((i : ℕ) → IsSome (get_or marks.old.items i None) → IsSome (get_or marks.new.items i None)) }
 {
-    if let Some(told) = decided(&views[at], &views[other]) {
-        return told;
+    if marks[at].is_none() {
+        marks[at] = Some(marked(alloc, &views[at])?);
     }
-    marks[at].meets(&marks[other])
+    Ok(())
 }
 
-/// The views that overlap the view at a place.
-fn row_of(alloc: Global, at: usize, views: &[View], marks: &[Bits]) -> Result<Bits, NoMemory>
-    requires inside { at < length views.now }
-    requires few { length views.now ≤ 1048576 }
-    requires marked { MarkedUpTo (length views.now) marks.now views.now }
-    ensures { IfOk result (λ row. row ≡ map (overlap (view_at views.now at)) views.now) }
+/// Whether the views at two places overlap; their elements are marked where the outlines don't tell.
+fn met(
+    alloc: Global,
+    views: &[View],
+    outlines: &[Outline],
+    marks: &mut Vec<Option<Bits>>,
+    at: usize,
+    other: usize,
+) -> Result<bool, NoMemory>
+    requires at { at < length views.now }
+    requires other { other < length views.now }
+    requires outlined { AreOutlines (length views.now) outlines.now views.now }
+    requires marked { AreMarks marks.old.items views.now }
+    ensures value { IfOk result (λ r. r ≡ overlap (view_at views.now at) (view_at views.now other)) }
+    ensures marked { OnOk result (AreMarks marks.new.items views.now) }
 {
+    if at == other {
+        return Ok(true);
+    }
+    if views[at].base() != views[other].base() {
+        return Ok(false);
+    }
+    if told_apart(&outlines[at], &outlines[other]) {
+        return Ok(false);
+    }
+    mark(alloc, views, marks, at)?;
+    mark(alloc, views, marks, other)?;
+    match (&marks[at], &marks[other]) {
+        (Some(here), Some(there)) => Ok(here.meets(there)),
+        _ => Ok(false),
+    }
+}
+
+/// The views that overlap the view at a place; what the rows of the views before it tell is read there.
+fn row_of(
+    alloc: Global,
+    views: &[View],
+    outlines: &[Outline],
+    marks: &mut Vec<Option<Bits>>,
+    rows: &[Bits],
+) -> Result<Bits, NoMemory>
+    requires more { length rows.now < length views.now }
+    requires few { length views.now ≤ 1048576 }
+    requires outlined { AreOutlines (length views.now) outlines.now views.now }
+    requires marked { AreMarks marks.old.items views.now }
+    requires rows { rows.now ≡ map (λ v. map (overlap v) views.now) (take (length rows.now) views.now) }
+    ensures row { IfOk result (λ row. row ≡ map (overlap (view_at views.now (length rows.now))) views.now) }
+    ensures marked { OnOk result (AreMarks marks.new.items views.now) }
+{
+    let at = rows.len();
     let mut row = Bits::new(alloc, views.len() as u32)?;
     for other in 0..views.len() {
-        if met(views, marks, at, other) {
+        let meets = if other < at {
+            rows[other].has(at as u32)
+        } else {
+            met(alloc, views, outlines, marks, at, other)?
+        };
+        if meets {
             row.insert(other as u32);
         }
     }
@@ -89,10 +144,17 @@ fn rows_of(alloc: Global, views: &[View]) -> Result<Vec<Bits>, NoMemory>
     requires { length views.now ≤ 1048576 }
     ensures { IfOk result (λ rows. rows.items ≡ overlaps_among views.now) }
 {
-    let marks = all_marked(alloc, views)?;
+    let outlines = all_outlines(alloc, views)?;
+    let mut marks = unmarked(alloc, views)?;
     let mut rows = Vec::new(alloc);
-    for at in 0..views.len() {
-        rows.push(row_of(alloc, at, views, marks.as_slice())?)?;
+    for _view in views {
+        rows.push(row_of(
+            alloc,
+            views,
+            outlines.as_slice(),
+            &mut marks,
+            rows.as_slice(),
+        )?)?;
     }
     Ok(rows)
 }
@@ -105,7 +167,7 @@ impl Classes {
     {
         let mut first_views = IndexSet::new(alloc);
         for view in views {
-            first_views.insert(copied(view))?;
+            first_views.insert(view.copied())?;
         }
         let rows = rows_of(alloc, first_views.as_slice())?;
         Ok(Classes {

@@ -1,36 +1,58 @@
-ghost use Rattle.std.specs.Prelude.{◌≡◌, IfOk, IsTrue};
-ghost use Rattle.arr_view.specs.Views.{elements, is_view, overlap, repeats};
+ghost use Rattle.std.specs.Prelude.{◌≡◌, ◌-◌, IfOk, get_or, length, pos};
+ghost use Rattle.arr_view.specs.Views.{elements, overlap, repeats};
 ghost use Rattle.arr_overlap.specs.Marks.{Marks};
 
 use crate::NoMemory;
 use crate::filters::decided;
+use crate::fronts::first_of_last;
 use arr_sets::Bits;
-use arr_view::{View, Walk};
+use arr_view::{MOST_ELEMENTS, View, Walk};
 use std::alloc::Global;
 
-/// One more than the greatest element that a view may have.
-const MOST: u32 = 1_048_576;
-
-/// The elements of a view, marked in a row of bits.
-pub(crate) fn marked(alloc: Global, view: &View) -> Result<Bits, NoMemory>
-    requires { IsTrue (is_view view.now) }
+/// The elements of a view, marked in a row of bits one by one.
+fn marked_singly(alloc: Global, view: &View) -> Result<Bits, NoMemory>
     ensures { IfOk result (λ bits. Marks bits (elements view.now)) }
 {
-    let mut bits = Bits::new(alloc, MOST)?;
+    let _base = view.base();
+    let mut bits = Bits::new(alloc, MOST_ELEMENTS)?;
     for element in Walk::new(view) {
         bits.insert(element);
     }
     Ok(bits)
 }
 
+/// The elements of a view of which the last stride is 1, marked in a row of bits by runs along its last dimension, of so many elements.
+fn marked_in_runs(alloc: Global, view: &View, run: u32) -> Result<Bits, NoMemory>
+    requires run { run ≡ get_or view.now.lengths (length view.now.lengths - 1) 0 }
+    requires stride { get_or view.now.strides (length view.now.strides - 1) (pos 0) ≡ pos 1 }
+    ensures { IfOk result (λ bits. Marks bits (elements view.now)) }
+{
+    let mut bits = Bits::new(alloc, MOST_ELEMENTS)?;
+    for first in Walk::new(&first_of_last(view)) {
+        bits.insert_run(first, run);
+    }
+    Ok(bits)
+}
+
+/// The elements of a view, marked in a row of bits.
+pub(crate) fn marked(alloc: Global, view: &View) -> Result<Bits, NoMemory>
+    ensures { IfOk result (λ bits. Marks bits (elements view.now)) }
+{
+    let last = view.shape().len() - 1;
+    if view.strides()[last] == 1 {
+        return marked_in_runs(alloc, view, view.shape()[last]);
+    }
+    marked_singly(alloc, view)
+}
+
 /// Whether two positions of the view have one element (docs/PLANS.md, "Views").
 pub fn repeats(alloc: Global, view: &View) -> Result<bool, NoMemory>
     ensures { IfOk result (λ r. r ≡ repeats view.now) }
 {
-    if view.positions() == 1 {
+    if view.is_gapless() {
         return Ok(false);
     }
-    let mut bits = Bits::new(alloc, MOST)?;
+    let mut bits = Bits::new(alloc, MOST_ELEMENTS)?;
     for element in Walk::new(view) {
         if bits.has(element) {
             return Ok(true);

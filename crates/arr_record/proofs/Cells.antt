@@ -105,19 +105,19 @@ output_of bases m g o h e =
     whole_at None e h = absurd (cc)
     whole_at (Some u) e h = let same : u ≡ o = cc in subst (WholeAmong bases) same h.0
 
-stored_output : (g : Op) (p : ℕ × Elem) (xs : List ℤ) (b : ℕ) (out : Option Strided) (makes : Bool) (c : Option Cell)
-    → ((o : Strided) → out ≡ Some o → (o.base == b) ≡ true → (g.to ≡ p.1) × AllIn p.1 xs × (makes ≡ true → length xs ≡ p.0))
-    → ((makes && list_any (λ (o : Strided). o.base == b) (option_to_list out)) ≡ true) ⊎ Stored p c → Stored p (changed (output_change out makes g.to xs b) c)
-stored_output g p xs b None makes c f h = ⊎_elim (λ t. absurd (false≢true (both_right makes false t))) (λ s. s) h
-stored_output g p xs b (Some o) makes c f h =
+pub stored_output : (to : Elem) (p : ℕ × Elem) (xs : List ℤ) (b : ℕ) (out : Option Strided) (makes : Bool) (c : Option Cell)
+    → ((o : Strided) → out ≡ Some o → (o.base == b) ≡ true → (to ≡ p.1) × AllIn p.1 xs × (makes ≡ true → length xs ≡ p.0))
+    → ((makes && list_any (λ (o : Strided). o.base == b) (option_to_list out)) ≡ true) ⊎ Stored p c → Stored p (changed (output_change out makes to xs b) c)
+stored_output to p xs b None makes c f h = ⊎_elim (λ t. absurd (false≢true (both_right makes false t))) (λ s. s) h
+stored_output to p xs b (Some o) makes c f h =
     elim (o.base == b) as (λ t. (o.base == b) ≡ t → ((makes && (t || false)) ≡ true) ⊎ Stored p c
-    → Stored p (changed (cond t (cond makes (Becomes (record { elem = g.to; numbers = xs })) (Writes (elements o) xs)) Keeps) c)) [
+    → Stored p (changed (cond t (cond makes (Becomes (record { elem = to; numbers = xs })) (Writes (elements o) xs)) Keeps) c)) [
       | true ↦ λ e k. here makes (f o refl e) k
       | false ↦ λ e k. ⊎_elim (λ t. absurd (false≢true (both_right makes false t))) (λ s. s) k
     ] refl h
   where
-    here : (makes : Bool) → (g.to ≡ p.1) × AllIn p.1 xs × (makes ≡ true → length xs ≡ p.0) → ((makes && true) ≡ true) ⊎ Stored p c
-        → Stored p (changed (cond makes (Becomes (record { elem = g.to; numbers = xs })) (Writes (elements o) xs)) c)
+    here : (makes : Bool) → (to ≡ p.1) × AllIn p.1 xs × (makes ≡ true → length xs ≡ p.0) → ((makes && true) ≡ true) ⊎ Stored p c
+        → Stored p (changed (cond makes (Becomes (record { elem = to; numbers = xs })) (Writes (elements o) xs)) c)
     here true w k = (w.0, w.1, w.2 refl)
     here false w k = ⊎_elim (λ t. absurd (false≢true t)) (λ s. stored_written p (elements o) xs c w.1 s) k
 
@@ -125,7 +125,7 @@ pub stored_step : (bases : List (ℕ × Elem)) (m : Memory) (g : Op) (b : ℕ) �
     → Stored (place_of bases b) ((step m g).bases b)
 stored_step bases m g b home free h =
     subst (λ t. Stored (place_of bases b) (changed (cond t Drops (output_change g.out g.makes g.to (computed m g) b)) (m.bases b))) (sym free)
-    (stored_output g (place_of bases b) (computed m g) b g.out g.makes (m.bases b)
+    (stored_output g.to (place_of bases b) (computed m g) b g.out g.makes (m.bases b)
     (λ o e t.
     let w : Output g (place_of bases o.base) (computed m g) = output_of bases m g o home e in
     let same : place_of bases o.base ≡ place_of bases b = ap (place_of bases) (eqb-true o.base b t) in
@@ -134,7 +134,7 @@ stored_step bases m g b home free h =
 
 -- ---- a base that is not there
 
-absent_output : (out : Option Strided) (makes : Bool) (t : Elem) (xs : List ℤ) (b : ℕ) → (makes && list_any (λ (o : Strided). o.base == b) (option_to_list out)) ≡ false
+pub absent_output : (out : Option Strided) (makes : Bool) (t : Elem) (xs : List ℤ) (b : ℕ) → (makes && list_any (λ (o : Strided). o.base == b) (option_to_list out)) ≡ false
     → changed (output_change out makes t xs b) None ≡ None
 absent_output None makes t xs b h = refl
 absent_output (Some v) makes t xs b h =

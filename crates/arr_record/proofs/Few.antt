@@ -1,4 +1,4 @@
--- How many operations the lists have: an operation is written once, and each base that it makes is freed once.
+-- How many parts there are and how many operations they have: what is recorded is written once, and each base that it makes is freed once.
 use Rattle.std.proofs.Common.{◌≡◌, ℕ, ◌+◌, ◌*◌, ◌≤◌, ◌<◌, List, [], ◌∷◌, ◌++◌, Bool, true, false, cond, not, length, map, refl, arith, length-append, Option, Some, None, Ok}
 use Rattle.std.specs.Prelude.{◌==◌}
 use Rattle.std.specs.List.{filter}
@@ -8,33 +8,43 @@ use Rattle.arr_view.specs.Strided.{Strided}
 use Rattle.arr_ops.specs.declared.op.Op.{Op}
 use Rattle.arr_ops.specs.Costs.{total}
 use Rattle.arr_elab.specs.declared.step.Step.{Step}
+use Rattle.arr_elab.specs.declared.step.Step.TheVariants as step
 use Rattle.arr_elab.specs.declared.step.Step.TheVariants.{Act, Name, Forget, Done, Cut}
-use Rattle.arr_elab.specs.Steps.{acts}
+use Rattle.arr_elab.specs.Steps.{deeds}
 use Rattle.arr_elab.specs.Outcome.{outcome}
 use Rattle.arr_elab.proofs.Tokens.{tokens, Statement, Script, few_of_text}
-use Rattle.arr_record.specs.Flushes.{Written, State, most, cut_list, cut_if, next_op, append, free, free_each, is_named, done, made, after, after_all, nothing_yet, flush_lists}
+use Rattle.arr_record.specs.declared.part.Part.{Part}
+use Rattle.arr_record.specs.declared.part.Part.TheVariants as part
+use Rattle.arr_record.specs.Parts.{Written, State, most, cut_list, cut_if, put, next_op, append, free, free_each, is_named, done, made, after, after_all, nothing_yet, parts_of}
 
--- the operations of lists
-abbrev sum : List (List Op) → ℕ
-sum lists = total (λ list. length list) lists
+-- the operations of a part; a gather or scatter counts as one
+abbrev pub size_of : Part → ℕ
+size_of (part.Flush list) = length list
+size_of _ = 1
 
-sum_with : (lists : List (List Op)) (list : List Op) → sum (lists ++ list ∷ []) ≡ sum lists + length list
-sum_with [] list = omega arith
-sum_with (l ∷ lists) list = let h = sum_with lists list in omega arith
+abbrev sum : List Part → ℕ
+sum parts = total size_of parts
+
+sum_with : (parts : List Part) (new : Part) → sum (parts ++ new ∷ []) ≡ sum parts + size_of new
+sum_with [] new = omega arith
+sum_with (p ∷ parts) new = let h = sum_with parts new in omega arith
 
 -- those that are written so far
 abbrev size : Written → ℕ
-size w = sum w.lists + length w.waiting
+size w = sum w.parts + length w.waiting
 
 -- ---- how many operations each step writes
 
-cut_sum : (lists : List (List Op)) (waiting : List Op) → sum (cut_list lists waiting) ≡ sum lists + length waiting
-cut_sum lists [] = omega arith
-cut_sum lists (op ∷ ops) = sum_with lists (op ∷ ops)
+cut_sum : (parts : List Part) (waiting : List Op) → sum (cut_list parts waiting) ≡ sum parts + length waiting
+cut_sum parts [] = omega arith
+cut_sum parts (op ∷ ops) = sum_with parts (part.Flush (op ∷ ops))
+
+put_size : (w : Written) (new : Part) → size_of new ≡ 1 → size (put w new) ≡ size w + 1
+put_size w new e = let h = sum_with (cut_list w.parts w.waiting) new in let k = cut_sum w.parts w.waiting in omega (arith, e)
 
 cut_if_size : (test : Bool) (w : Written) → size (cut_if test w) ≡ size w
 cut_if_size false w = refl
-cut_if_size true w = let h = cut_sum w.lists w.waiting in omega arith
+cut_if_size true w = let h = cut_sum w.parts w.waiting in omega arith
 
 append_size : (w : Written) (op : Op) → size (append w op) ≡ size w + 1
 append_size w op =
@@ -75,52 +85,66 @@ made_few op = by op.makes op.out
     by true (Some o) = omega arith
     by false (Some o) = omega arith
 
-after_owed : (s : State) (step : Step) → owed (after s step) ≤ owed s + 2 * length (acts (step ∷ []))
+after_owed : (s : State) (new : Step) → owed (after s new) ≤ owed s + 2 * deeds (new ∷ [])
 after_owed s (Act op) =
     let h = append_size s.written op in
     let k : length (s.live ++ made op) ≡ length s.live + length (made op) = length-append s.live (made op) in
     let l = made_few op in
     omega arith
+after_owed s (step.Gather g) =
+    let h = put_size s.written (part.Gather g) refl in
+    let new : ℕ × Elem = (g.out.base, g.to) in
+    let k : length (s.live ++ new ∷ []) ≡ length s.live + 1 = length-append s.live (new ∷ []) in
+    omega arith
+after_owed s (step.Scatter g) = let h = put_size s.written (part.Scatter g) refl in omega arith
 after_owed s (Name n b) = omega arith
 after_owed s (Forget n) = omega arith
 after_owed s Done = let h = done_owed s in omega arith
-after_owed s Cut = let h = cut_sum s.written.lists s.written.waiting in omega arith
+after_owed s Cut = let h = cut_sum s.written.parts s.written.waiting in omega arith
 
-acts_first : (step : Step) (steps : List Step) → length (acts (step ∷ steps)) ≡ length (acts (step ∷ [])) + length (acts steps)
-acts_first (Act op) steps = omega arith
-acts_first (Name n b) steps = omega arith
-acts_first (Forget n) steps = omega arith
-acts_first Done steps = omega arith
-acts_first Cut steps = omega arith
+deeds_first : (new : Step) (steps : List Step) → deeds (new ∷ steps) ≡ deeds (new ∷ []) + deeds steps
+deeds_first (Act op) steps = omega arith
+deeds_first (step.Gather g) steps = omega arith
+deeds_first (step.Scatter g) steps = omega arith
+deeds_first (Name n b) steps = omega arith
+deeds_first (Forget n) steps = omega arith
+deeds_first Done steps = omega arith
+deeds_first Cut steps = omega arith
 
-all_owed : (s : State) (steps : List Step) → owed (after_all s steps) ≤ owed s + 2 * length (acts steps)
+all_owed : (s : State) (steps : List Step) → owed (after_all s steps) ≤ owed s + 2 * deeds steps
 all_owed s [] = omega arith
-all_owed s (step ∷ steps) = let h = after_owed s step in let k = all_owed (after s step) steps in let l = acts_first step steps in omega arith
+all_owed s (new ∷ steps) = let h = after_owed s new in let k = all_owed (after s new) steps in let l = deeds_first new steps in omega arith
 
-pub few_operations : (steps : List Step) → total (λ list. length list) (flush_lists steps) ≤ 2 * length (acts steps)
+pub few_operations : (steps : List Step) → total size_of (parts_of steps) ≤ 2 * deeds steps
 few_operations steps =
     let s : State = after_all nothing_yet steps in
-    let h : owed s ≤ 0 + 2 * length (acts steps) = all_owed nothing_yet steps in
+    let h : owed s ≤ 0 + 2 * deeds steps = all_owed nothing_yet steps in
     let last : State = done (record s { names = [] }) in
     let k : owed last ≡ owed s = done_owed (record s { names = [] }) in
-    let l : sum (cut_list last.written.lists last.written.waiting) ≡ size last.written = cut_sum last.written.lists last.written.waiting in
+    let l : sum (cut_list last.written.parts last.written.waiting) ≡ size last.written = cut_sum last.written.parts last.written.waiting in
     omega arith
 
--- ---- each list has an operation
+-- ---- each part has an operation
 
 abbrev Filled : Written → Type 0
-Filled w = length w.lists ≤ sum w.lists
+Filled w = length w.parts ≤ sum w.parts
 
-cut_filled : (lists : List (List Op)) (waiting : List Op) → length lists ≤ sum lists → length (cut_list lists waiting) ≤ sum (cut_list lists waiting)
-cut_filled lists [] h = h
-cut_filled lists (op ∷ ops) h =
-    let k = sum_with lists (op ∷ ops) in
-    let l : length (lists ++ (op ∷ ops) ∷ []) ≡ length lists + 1 = length-append lists ((op ∷ ops) ∷ []) in
-    omega arith
+more_filled : (parts : List Part) (new : Part) → 1 ≤ size_of new → length parts ≤ sum parts → length (parts ++ new ∷ []) ≤ sum (parts ++ new ∷ [])
+more_filled parts new some h =
+    let k = sum_with parts new in
+    let l : length (parts ++ new ∷ []) ≡ length parts + 1 = length-append parts (new ∷ []) in
+    omega (arith, some)
+
+cut_filled : (parts : List Part) (waiting : List Op) → length parts ≤ sum parts → length (cut_list parts waiting) ≤ sum (cut_list parts waiting)
+cut_filled parts [] h = h
+cut_filled parts (op ∷ ops) h = more_filled parts (part.Flush (op ∷ ops)) (omega arith) h
+
+put_filled : (w : Written) (new : Part) → 1 ≤ size_of new → Filled w → Filled (put w new)
+put_filled w new some h = more_filled (cut_list w.parts w.waiting) new some (cut_filled w.parts w.waiting h)
 
 cut_if_filled : (test : Bool) (w : Written) → Filled w → Filled (cut_if test w)
 cut_if_filled false w h = h
-cut_if_filled true w h = cut_filled w.lists w.waiting h
+cut_if_filled true w h = cut_filled w.parts w.waiting h
 
 append_filled : (w : Written) (op : Op) → Filled w → Filled (append w op)
 append_filled w op h =
@@ -134,43 +158,45 @@ frees_filled w (base ∷ bases) h = frees_filled (append w (free base)) bases (a
 done_filled : (s : State) → Filled s.written → Filled (done s).written
 done_filled s h = frees_filled s.written (filter (λ base. not (is_named s.names base)) s.live) h
 
-after_filled : (s : State) (step : Step) → Filled s.written → Filled (after s step).written
+after_filled : (s : State) (new : Step) → Filled s.written → Filled (after s new).written
 after_filled s (Act op) h = append_filled s.written op h
+after_filled s (step.Gather g) h = put_filled s.written (part.Gather g) (omega arith) h
+after_filled s (step.Scatter g) h = put_filled s.written (part.Scatter g) (omega arith) h
 after_filled s (Name n b) h = h
 after_filled s (Forget n) h = h
 after_filled s Done h = done_filled s h
-after_filled s Cut h = cut_filled s.written.lists s.written.waiting h
+after_filled s Cut h = cut_filled s.written.parts s.written.waiting h
 
 all_filled : (s : State) (steps : List Step) → Filled s.written → Filled (after_all s steps).written
 all_filled s [] h = h
-all_filled s (step ∷ steps) h = all_filled (after s step) steps (after_filled s step h)
+all_filled s (new ∷ steps) h = all_filled (after s new) steps (after_filled s new h)
 
-pub lists_filled : (steps : List Step) → length (flush_lists steps) ≤ total (λ list. length list) (flush_lists steps)
-lists_filled steps =
+pub parts_filled : (steps : List Step) → length (parts_of steps) ≤ total size_of (parts_of steps)
+parts_filled steps =
     let s : State = after_all nothing_yet steps in
     let last : State = done (record s { names = [] }) in
     let none : 0 ≤ 0 = omega arith in
-    cut_filled last.written.lists last.written.waiting (done_filled (record s { names = [] }) (all_filled nothing_yet steps none))
+    cut_filled last.written.parts last.written.waiting (done_filled (record s { names = [] }) (all_filled nothing_yet steps none))
 
 -- ---- a script of so many bytes
 
--- how many operations and lists a text's steps have
+-- how many operations and parts a text's steps have
 pub record Few (text : List ℕ) (steps : List Step) : Type 0 where
-  pub operations : total (λ list. length list) (flush_lists steps) ≤ 2 * (length text + 1)
-  pub lists : length (flush_lists steps) ≤ 2 * (length text + 1)
+  pub operations : total size_of (parts_of steps) ≤ 2 * (length text + 1)
+  pub parts : length (parts_of steps) ≤ 2 * (length text + 1)
 
 pub few_of : (text : List ℕ) (ss : List Statement) (steps : List Step) → Script (tokens text) ss → outcome ss ≡ Ok steps → Few text steps
 few_of text ss steps script e =
-    let recorded : length (acts steps) ≤ length text + 1 = few_of_text text ss steps script e in
-    let written : total (λ list. length list) (flush_lists steps) ≤ 2 * length (acts steps) = few_operations steps in
-    let filled : length (flush_lists steps) ≤ total (λ list. length list) (flush_lists steps) = lists_filled steps in
-    record { operations = omega arith; lists = omega arith }
+    let recorded : deeds steps ≤ length text + 1 = few_of_text text ss steps script e in
+    let written : total size_of (parts_of steps) ≤ 2 * deeds steps = few_operations steps in
+    let filled : length (parts_of steps) ≤ total size_of (parts_of steps) = parts_filled steps in
+    record { operations = omega arith; parts = omega arith }
 
 -- of a script of at most a megabyte
-pub few_lists : (text : List ℕ) (ss : List Statement) (steps : List Step) → length text ≤ 1048576 → Script (tokens text) ss → outcome ss ≡ Ok steps
-    → (total (λ list. length list) (flush_lists steps) < 4194304) × (length (flush_lists steps) < 4194304)
-few_lists text ss steps short script e =
+pub few_parts : (text : List ℕ) (ss : List Statement) (steps : List Step) → length text ≤ 1048576 → Script (tokens text) ss → outcome ss ≡ Ok steps
+    → (total size_of (parts_of steps) < 4194304) × (length (parts_of steps) < 4194304)
+few_parts text ss steps short script e =
     let few = few_of text ss steps script e in
-    let operations : total (λ list. length list) (flush_lists steps) ≤ 2 * (length text + 1) = few.operations in
-    let lists : length (flush_lists steps) ≤ 2 * (length text + 1) = few.lists in
+    let operations : total size_of (parts_of steps) ≤ 2 * (length text + 1) = few.operations in
+    let parts : length (parts_of steps) ≤ 2 * (length text + 1) = few.parts in
     (omega arith, omega arith)

@@ -7,12 +7,13 @@ use Rattle.arr_num.specs.declared.elem.Elem.{Elem}
 use Rattle.arr_num.specs.declared.elem.Elem.TheVariants.{U8, I32, I64, U64}
 use Rattle.arr_view.specs.Views.{has}
 use Rattle.arr_ops.specs.declared.op.Op.{Op}
-use Rattle.arr_ops.specs.Memory.{step, empty, changed, Drops, Keeps}
+use Rattle.arr_ops.specs.Memory.{step, changed, Drops, Keeps}
 use Rattle.arr_ops.specs.Formed.{well_formed}
 use Rattle.arr_ops.proofs.Pairs.{Pairs, All_weaker}
-use Rattle.arr_elab.specs.Steps.{printed}
+use Rattle.arr_elab.specs.Steps.{Progress, shown}
+use Rattle.arr_record.specs.declared.part.Part.{Part}
 use Rattle.arr_ops.proofs.Spots.{all_two}
-use Rattle.arr_record.specs.Flushes.{Written, most, cut_list, cut, cut_if, append, free, free_each}
+use Rattle.arr_record.specs.Parts.{Written, most, cut_list, cut, cut_if, append, free, free_each}
 use Rattle.arr_record.specs.Ledger.{lives}
 use Rattle.arr_record.proofs.Home.{Home, place_of}
 use Rattle.arr_record.proofs.Joined.{Allowed}
@@ -20,21 +21,21 @@ use Rattle.arr_record.proofs.Kept.{Kept, now_of, live_after, kept_more, kept_cut
 
 -- ---- cuts
 
-pub cut_kept : (bases : List (ℕ × Elem)) (live : ℕ → Bool) (past : List Op) (lists : List (List Op)) (waiting : List Op) → Kept bases live past lists waiting
-    → Kept bases live past (cut_list lists waiting) []
-cut_kept bases live past lists [] k = k
-cut_kept bases live past lists (op ∷ ops) k = kept_cut bases live past lists (op ∷ ops) (omega arith) k
+pub cut_kept : (bases : List (ℕ × Elem)) (live : ℕ → Bool) (past : Progress) (parts : List Part) (waiting : List Op) → Kept bases live past parts waiting
+    → Kept bases live past (cut_list parts waiting) []
+cut_kept bases live past parts [] k = k
+cut_kept bases live past parts (op ∷ ops) k = kept_cut bases live past parts (op ∷ ops) (omega arith) k
 
 -- between operations fewer wait than a list has at most
-pub record Going (bases : List (ℕ × Elem)) (live : ℕ → Bool) (past : List Op) (s : Written) : Type 0 where
-  pub kept : Kept bases live past s.lists s.waiting
+pub record Going (bases : List (ℕ × Elem)) (live : ℕ → Bool) (past : Progress) (s : Written) : Type 0 where
+  pub kept : Kept bases live past s.parts s.waiting
   pub short : length s.waiting < most
 
-pub going_cut : (bases : List (ℕ × Elem)) (live : ℕ → Bool) (past : List Op) (s : Written) → Kept bases live past s.lists s.waiting → Going bases live past (cut s)
-going_cut bases live past s k = record { kept = cut_kept bases live past s.lists s.waiting k; short = omega arith }
+pub going_cut : (bases : List (ℕ × Elem)) (live : ℕ → Bool) (past : Progress) (s : Written) → Kept bases live past s.parts s.waiting → Going bases live past (cut s)
+going_cut bases live past s k = record { kept = cut_kept bases live past s.parts s.waiting k; short = omega arith }
 
 -- a list is cut where it is full
-pub settled : (bases : List (ℕ × Elem)) (live : ℕ → Bool) (past : List Op) (s : Written) → Kept bases live past s.lists s.waiting
+pub settled : (bases : List (ℕ × Elem)) (live : ℕ → Bool) (past : Progress) (s : Written) → Kept bases live past s.parts s.waiting
     → Going bases live past (cut_if (length s.waiting == most) s)
 settled bases live past s k =
     elim (length s.waiting == most) as (λ t. (length s.waiting == most) ≡ t → Going bases live past (cut_if t s)) [
@@ -57,10 +58,10 @@ free_well base = by_type base.1
 abbrev pub Lives : List (ℕ × Elem) → (ℕ → Bool) → ℕ × Elem → Type 0
 Lives bases live base = (live base.0 ≡ true) × (base.1 ≡ (place_of bases base.0).1)
 
-going_free : (bases : List (ℕ × Elem)) (live : ℕ → Bool) (past : List Op) (s : Written) (base : ℕ × Elem) → Lives bases live base → Going bases live past s
+going_free : (bases : List (ℕ × Elem)) (live : ℕ → Bool) (past : Progress) (s : Written) (base : ℕ × Elem) → Lives bases live base → Going bases live past s
     → Going bases (live_after live (free base)) past (append s (free base))
 going_free bases live past s base alive g =
-    let k : Kept bases live past s.lists s.waiting = g.kept in
+    let k : Kept bases live past s.parts s.waiting = g.kept in
     let nil : bases ++ [] ≡ bases = append-nil bases in
     let home : Home (bases ++ []) (free base) =
     subst (λ bs. Home bs (free base)) (sym nil) (record {
@@ -71,13 +72,13 @@ going_free bases live past s base alive g =
     }) in
     let allowed : Allowed bases live (free base) = record { reads = tt; frees = (alive.0, tt); writes = λ _. tt; makes = λ e. absurd (false≢true e) } in
     settled bases (live_after live (free base)) past (record s { waiting = s.waiting ++ free base ∷ [] })
-    (subst (λ bs. Kept bs (live_after live (free base)) past s.lists (s.waiting ++ free base ∷ [])) nil
-    (kept_more bases live past s.lists s.waiting (free base) k allowed home past refl g.short
+    (subst (λ bs. Kept bs (live_after live (free base)) past s.parts (s.waiting ++ free base ∷ [])) nil
+    (kept_more bases live past s.parts s.waiting (free base) k allowed home past refl g.short
     (λ b h. left b (not_true (has (base.0 ∷ []) b) (right (live b || false) (has (base.0 ∷ []) b) h)) ∙ k.same b (was (live b) (has (base.0 ∷ []) b) h))
-    (append-nil (printed empty past))))
+    (append-nil (shown past))))
   where
-    left : (b : ℕ) → has (base.0 ∷ []) b ≡ false → (step (now_of s.lists s.waiting) (free base)).bases b ≡ (now_of s.lists s.waiting).bases b
-    left b h = ap (λ t. changed (cond t Drops Keeps) ((now_of s.lists s.waiting).bases b)) h
+    left : (b : ℕ) → has (base.0 ∷ []) b ≡ false → (step (now_of s.parts s.waiting) (free base)).bases b ≡ (now_of s.parts s.waiting).bases b
+    left b h = ap (λ t. changed (cond t Drops Keeps) ((now_of s.parts s.waiting).bases b)) h
 
     right : (a b : Bool) → (a && not b) ≡ true → not b ≡ true
     right true b h = h
@@ -115,7 +116,7 @@ without_none live b = both (live b)
     both true = refl
     both false = refl
 
-pub going_alike : (bases : List (ℕ × Elem)) (live other : ℕ → Bool) (past : List Op) (s : Written) → ((b : ℕ) → live b ≡ other b) → Going bases live past s → Going bases other past s
+pub going_alike : (bases : List (ℕ × Elem)) (live other : ℕ → Bool) (past : Progress) (s : Written) → ((b : ℕ) → live b ≡ other b) → Going bases live past s → Going bases other past s
 going_alike bases live other past s e g = let same : live ≡ other = (λ i b. e b i) in subst (λ l. Going bases l past s) same g
 
 -- those that come later still live
@@ -125,7 +126,7 @@ later_live bases live base bs =
     all_two (λ (other : ℕ × Elem). base.0 < other.0) (Lives bases live) (Lives bases (live_after live (free base)))
     (λ other l h. (ap₂ (λ x y. (x || false) && not (y || false)) h.0 (let ne : other.0 ≢ base.0 = (λ e. absurd (omega arith)) in ne_eqb other.0 base.0 ne), h.1)) bs
 
-pub going_frees : (bases : List (ℕ × Elem)) (bs : List (ℕ × Elem)) (live : ℕ → Bool) (past : List Op) (s : Written) → Pairs (λ (x y : ℕ × Elem). x.0 < y.0) bs → AllByRecursion (Lives bases live) bs
+pub going_frees : (bases : List (ℕ × Elem)) (bs : List (ℕ × Elem)) (live : ℕ → Bool) (past : Progress) (s : Written) → Pairs (λ (x y : ℕ × Elem). x.0 < y.0) bs → AllByRecursion (Lives bases live) bs
     → Going bases live past s → Going bases (live_without live bs) past (free_each s bs)
 going_frees bases [] live past s p h g = going_alike bases live (live_without live []) past s (without_none live) g
 going_frees bases (base ∷ bs) live past s p h g =

@@ -5,7 +5,8 @@ use Rattle.std.proofs.lemmas.List.{get_or_append_left}
 use Rattle.std.specs.Prelude.{◌==◌, nat_lt}
 use Rattle.std.specs.List.{AllByRecursion, list_all, range_with_len}
 use Rattle.arr_num.specs.declared.elem.Elem.{Elem}
-use Rattle.arr_num.specs.declared.elem.Elem.TheVariants.{U8, I32, I64, U64}
+use Rattle.arr_num.specs.declared.elem.Elem.TheVariants.{U8}
+use Rattle.arr_num.specs.Types.{same_elem_refl}
 use Rattle.arr_view.specs.Strided.{Strided}
 use Rattle.arr_view.specs.Views.{elements, positions}
 use Rattle.arr_ops.specs.declared.op.Op.{Op}
@@ -98,13 +99,7 @@ inside_of bases f g h k = by_makes f.makes h.whole
         (outputs f) (w refl))
 
 pub same_elem_if : (s t : Elem) → s ≡ t → same_elem s t ≡ true
-same_elem_if s t e = ap (same_elem s) (sym e) ∙ same s
-  where
-    same : (s : Elem) → same_elem s s ≡ true
-    same U8 = refl
-    same I32 = refl
-    same I64 = refl
-    same U64 = refl
+same_elem_if s t e = ap (same_elem s) (sym e) ∙ same_elem_refl s
 
 types_of : (bases : List (ℕ × Elem)) (f g : Op) → Home bases f → Home bases g → same_types f g ≡ true
 types_of bases f g h k =

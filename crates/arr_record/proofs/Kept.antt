@@ -1,4 +1,4 @@
--- What holds of the lists cut so far and of what waits, beside eager execution with nothing freed.
+-- What holds of the parts so far and of what waits, beside eager execution with nothing freed.
 use Rattle.std.proofs.Common.{◌≡◌, ℕ, ◌+◌, ◌<◌, ◌≤◌, suc, List, [], ◌∷◌, ◌++◌, Bool, true, false, not, ◌||◌, ◌&&◌, ◌⊎◌, inl, inr, ⊎_elim, refl, ap, ap₂, sym, subst, ◌∙◌, arith, length, length-append, append_assoc, append-nil, map, Option, Some, None}
 use Rattle.std.proofs.lemmas.Bool.{false≢true, eqb-true, eq-eqb}
 use Rattle.std.specs.Prelude.{◌==◌, nat_eq}
@@ -17,11 +17,14 @@ use Rattle.arr_ops.proofs.Tests.{test_all, or_cases, both_left, both_right}
 use Rattle.arr_ops.proofs.Fits.{or_first, or_second}
 use Rattle.arr_ops.proofs.FitsLaw.{all_append}
 use Rattle.arr_elab.specs.Recording.{made_by}
-use Rattle.arr_elab.specs.Steps.{printed, slot_count, slot_from}
+use Rattle.arr_elab.specs.Steps.{Progress, shown, printed, slot_count, slot_from}
 use Rattle.arr_ops.proofs.Spots.{all_two}
-use Rattle.arr_record.specs.Flushes.{most}
-use Rattle.arr_record.specs.Runs.{after_list, after_lists, printed_lists, each_fits}
-use Rattle.arr_record.proofs.Runs.{eager_append, after_lists_more, printed_lists_more, each_fits_more, printed_more, slot_cases, slot_count_more, range_more, shown_at, content}
+use Rattle.arr_record.specs.Parts.{most}
+use Rattle.arr_ops.specs.Gathers.{is_gather, is_scatter}
+use Rattle.arr_record.specs.declared.part.Part.{Part}
+use Rattle.arr_record.specs.declared.part.Part.TheVariants.{Flush, Gather, Scatter}
+use Rattle.arr_record.specs.Runs.{after_part, after_parts, printed_parts, each_fits}
+use Rattle.arr_record.proofs.Runs.{eager_append, after_parts_more, printed_parts_more, each_fits_more, printed_more, slot_cases, slot_count_more, range_more, shown_at, content}
 use Rattle.arr_record.proofs.Home.{Home, place_of, place_more, below_all, home_more, formed_if}
 use Rattle.arr_record.proofs.Cells.{Stored, stored_step, absent_step}
 use Rattle.arr_record.proofs.Joined.{Allowed, precedes, pairs_more, fits_more, last_fits, creates_more, creates_last}
@@ -32,32 +35,37 @@ pub record Lawful (list : List Op) : Type 0 where
   pub some : 1 ≤ length list
   pub few : length list ≤ most
 
+abbrev pub LawfulPart : Part → Type 0
+LawfulPart (Flush list) = Lawful list
+LawfulPart (Gather g) = is_gather g ≡ true
+LawfulPart (Scatter g) = is_scatter g ≡ true
+
 -- the memory in which what waits begins
-abbrev pub start_of : List (List Op) → Memory
-start_of lists = after_lists empty lists
+abbrev pub start_of : List Part → Memory
+start_of parts = after_parts empty parts
 
 -- the memory after it
-abbrev pub now_of : List (List Op) → List Op → Memory
-now_of lists waiting = eager (start_of lists) waiting
+abbrev pub now_of : List Part → List Op → Memory
+now_of parts waiting = eager (start_of parts) waiting
 
--- Of the length and type of each base, the live bases, the operations of eager execution, the lists cut and what waits.
-pub record Kept (bases : List (ℕ × Elem)) (live : ℕ → Bool) (past : List Op) (lists : List (List Op)) (waiting : List Op) : Type 0 where
-  pub lawful : AllByRecursion Lawful lists
-  pub fitting : each_fits empty lists ≡ true
+-- Of the length and type of each base, the live bases, eager execution so far, the parts and what waits.
+pub record Kept (bases : List (ℕ × Elem)) (live : ℕ → Bool) (past : Progress) (parts : List Part) (waiting : List Op) : Type 0 where
+  pub lawful : AllByRecursion LawfulPart parts
+  pub fitting : each_fits empty parts ≡ true
   pub few : length waiting ≤ most
   pub home : AllByRecursion (Home bases) waiting
   pub slots : slot_numbers waiting ≡ range_with_len 1 (slot_count waiting)
   pub order : Pairs (λ f g. may_precede f g ≡ true) waiting
-  pub fits_start : AllByRecursion (λ f. op_fits (start_of lists) waiting f ≡ true) waiting
+  pub fits_start : AllByRecursion (λ f. op_fits (start_of parts) waiting f ≡ true) waiting
   pub gone : AllByRecursion (λ f. AllByRecursion (λ b. live b ≡ false) (freed f)) waiting
   pub below : (b : ℕ) → live b ≡ true → b < length bases
-  pub unmade : (b : ℕ) → length bases ≤ b → (start_of lists).bases b ≡ None
-  pub bare : (s : ℕ) → (start_of lists).slots s ≡ None
-  pub source : (b : ℕ) → live b ≡ true → (creates waiting b ≡ true) ⊎ Stored (place_of bases b) ((start_of lists).bases b)
-  pub stored : (b : ℕ) → live b ≡ true → Stored (place_of bases b) ((now_of lists waiting).bases b)
-  pub absent : (b : ℕ) → live b ≡ false → (now_of lists waiting).bases b ≡ None
-  pub same : (b : ℕ) → live b ≡ true → (now_of lists waiting).bases b ≡ (eager empty past).bases b
-  pub prints : printed_lists empty lists ++ printed (start_of lists) waiting ≡ printed empty past
+  pub unmade : (b : ℕ) → length bases ≤ b → (start_of parts).bases b ≡ None
+  pub bare : (s : ℕ) → (start_of parts).slots s ≡ None
+  pub source : (b : ℕ) → live b ≡ true → (creates waiting b ≡ true) ⊎ Stored (place_of bases b) ((start_of parts).bases b)
+  pub stored : (b : ℕ) → live b ≡ true → Stored (place_of bases b) ((now_of parts waiting).bases b)
+  pub absent : (b : ℕ) → live b ≡ false → (now_of parts waiting).bases b ≡ None
+  pub same : (b : ℕ) → live b ≡ true → (now_of parts waiting).bases b ≡ past.memory.bases b
+  pub prints : printed_parts empty parts ++ printed (start_of parts) waiting ≡ shown past
 
 -- ---- slots
 
@@ -85,7 +93,7 @@ slots_joined ops op e h =
     let one_more : length (option_to_list op.slot) ≡ 1 = ap (λ s. length (option_to_list s)) some in
     ap (λ s. range_with_len 1 n ++ option_to_list s) some ∙ ap (λ k. range_with_len 1 n ++ k ∷ []) (let k : suc n ≡ 1 + n = omega arith in k)
     ∙ sym (range_more 1 n) ∙ ap (range_with_len 1) (let k : suc n ≡ slot_count (ops ++ op ∷ []) = omega arith in k))
-    (slot_cases (suc n) op.code)
+    (slot_cases n op.code)
 
 -- ---- one more operation
 
@@ -93,7 +101,7 @@ slots_joined ops op e h =
 abbrev pub live_after : (ℕ → Bool) → Op → ℕ → Bool
 live_after live g b = (live b || makes_base g b) && not (has (freed g) b)
 
-or_not : (a b : Bool) → (a || b) ≡ false → (a ≡ false) × (b ≡ false)
+pub or_not : (a b : Bool) → (a || b) ≡ false → (a ≡ false) × (b ≡ false)
 or_not true b h = absurd (false≢true (sym h))
 or_not false b h = (refl, h)
 
@@ -122,8 +130,8 @@ itself : (bs : List ℕ) → AllByRecursion (λ b. has bs b ≡ true) bs
 itself [] = tt
 itself (b ∷ bs) = (or_first (nat_eq b b) _ (eq-eqb b b refl), All_weaker (λ c. has bs c ≡ true) (λ c. has (b ∷ bs) c ≡ true) (λ c t. or_second (nat_eq c b) _ t) bs (itself bs))
 
-module _ (bases : List (ℕ × Elem)) (live : ℕ → Bool) (past : List Op) (lists : List (List Op)) (waiting : List Op) (g : Op)
-    (k : Kept bases live past lists waiting) (a : Allowed bases live g) (g_home : Home (bases ++ made_by g) g) where
+module _ (bases : List (ℕ × Elem)) (live : ℕ → Bool) (past : Progress) (parts : List Part) (waiting : List Op) (g : Op)
+    (k : Kept bases live past parts waiting) (a : Allowed bases live g) (g_home : Home (bases ++ made_by g) g) where
   more : List (ℕ × Elem)
   more = bases ++ made_by g
 
@@ -133,8 +141,8 @@ module _ (bases : List (ℕ × Elem)) (live : ℕ → Bool) (past : List Op) (li
   stored_more : (b : ℕ) (m : Memory) → live b ≡ true → Stored (place_of bases b) (m.bases b) → Stored (place_of (bases ++ made_by g) b) (m.bases b)
   stored_more b m l s = subst (λ p. Stored p (m.bases b)) (sym (place_more bases (made_by g) b (k.below b l))) s
 
-  source_more : (b : ℕ) → live b ≡ true → (creates waiting b ≡ true) ⊎ Stored (place_of (bases ++ made_by g) b) ((start_of lists).bases b)
-  source_more b l = ⊎_elim (λ t. inl t) (λ s. inr (stored_more b (start_of lists) l s)) (k.source b l)
+  source_more : (b : ℕ) → live b ≡ true → (creates waiting b ≡ true) ⊎ Stored (place_of (bases ++ made_by g) b) ((start_of parts).bases b)
+  source_more b l = ⊎_elim (λ t. inl t) (λ s. inr (stored_more b (start_of parts) l s)) (k.source b l)
 
   -- live after it: live before it or made by it, and not freed
   was : (b : ℕ) → live_after live g b ≡ true → ((live b ≡ true) ⊎ (makes_base g b ≡ true)) × (has (freed g) b ≡ false)
@@ -152,15 +160,15 @@ module _ (bases : List (ℕ × Elem)) (live : ℕ → Bool) (past : List Op) (li
       all_two (λ b. b < length bases) (λ b. live b ≡ false) (λ b. live_after live g b ≡ false)
       (λ b l dead. ap₂ (λ x y. (x || y) && not (has (freed g) b)) dead (never_made b l)) (freed f) (below_all bases f h).1
 
-  now_more : (b : ℕ) → live_after live g b ≡ true → Stored (place_of (bases ++ made_by g) b) ((step (now_of lists waiting) g).bases b)
+  now_more : (b : ℕ) → live_after live g b ≡ true → Stored (place_of (bases ++ made_by g) b) ((step (now_of parts waiting) g).bases b)
   now_more b h =
       let w = was b h in
-      stored_step (bases ++ made_by g) (now_of lists waiting) g b g_home w.1
-      (⊎_elim (λ t. inr (stored_more b (now_of lists waiting) t (k.stored b t))) (λ t. inl t) w.0)
+      stored_step (bases ++ made_by g) (now_of parts waiting) g b g_home w.1
+      (⊎_elim (λ t. inr (stored_more b (now_of parts waiting) t (k.stored b t))) (λ t. inl t) w.0)
 
-  absent_more : (b : ℕ) → live_after live g b ≡ false → (step (now_of lists waiting) g).bases b ≡ None
+  absent_more : (b : ℕ) → live_after live g b ≡ false → (step (now_of parts waiting) g).bases b ≡ None
   absent_more b h =
-      absent_step (now_of lists waiting) g b
+      absent_step (now_of parts waiting) g b
       (⊎_elim (λ t. inl t) (λ t. let n = or_not (live b) (makes_base g b) t in inr (k.absent b n.0, n.1)) (and_not (live b || makes_base g b) (has (freed g) b) h))
 
   below_more : (b : ℕ) → live_after live g b ≡ true → b < length (bases ++ made_by g)
@@ -174,25 +182,25 @@ module _ (bases : List (ℕ × Elem)) (live : ℕ → Bool) (past : List Op) (li
       omega arith)
       (was b h).0
 
-  source_after : (b : ℕ) → live_after live g b ≡ true → (creates (waiting ++ g ∷ []) b ≡ true) ⊎ Stored (place_of (bases ++ made_by g) b) ((start_of lists).bases b)
+  source_after : (b : ℕ) → live_after live g b ≡ true → (creates (waiting ++ g ∷ []) b ≡ true) ⊎ Stored (place_of (bases ++ made_by g) b) ((start_of parts).bases b)
   source_after b h =
       ⊎_elim
       (λ t. ⊎_elim (λ c. inl (creates_more waiting g b c)) (λ s. inr s) (source_more b t))
       (λ t. inl (creates_last waiting g b t))
       (was b h).0
 
-  fits_last : op_fits (start_of lists) (waiting ++ g ∷ []) g ≡ true
+  fits_last : op_fits (start_of parts) (waiting ++ g ∷ []) g ≡ true
   fits_last =
-      last_fits (bases ++ made_by g) live (start_of lists) waiting g source_more g_home a.writes a.reads a.frees
-      (λ e. All_weaker (λ (o : Strided). o.base ≡ length bases) (λ (o : Strided). (start_of lists).bases o.base ≡ None)
+      last_fits (bases ++ made_by g) live (start_of parts) waiting g source_more g_home a.writes a.reads a.frees
+      (λ e. All_weaker (λ (o : Strided). o.base ≡ length bases) (λ (o : Strided). (start_of parts).bases o.base ≡ None)
       (λ o t. k.unmade o.base (let l : length bases ≤ o.base = omega arith in l)) (outputs g) (a.makes e)) k.bare
 
-  pub kept_more : (later : List Op) → g.slot ≡ slot_from (suc (slot_count waiting)) g.code → length waiting < most
-      → ((b : ℕ) → live_after live g b ≡ true → (step (now_of lists waiting) g).bases b ≡ (eager empty later).bases b)
-      → printed empty past ++ shown_at g.slot (content (now_of lists waiting) g) ≡ printed empty later
-      → Kept (bases ++ made_by g) (live_after live g) later lists (waiting ++ g ∷ [])
+  pub kept_more : (later : Progress) → g.slot ≡ slot_from (suc (slot_count waiting)) g.code → length waiting < most
+      → ((b : ℕ) → live_after live g b ≡ true → (step (now_of parts waiting) g).bases b ≡ later.memory.bases b)
+      → shown past ++ shown_at g.slot (content (now_of parts waiting) g) ≡ shown later
+      → Kept (bases ++ made_by g) (live_after live g) later parts (waiting ++ g ∷ [])
   kept_more later slot few same prints =
-      let run : now_of lists (waiting ++ g ∷ []) ≡ step (now_of lists waiting) g = eager_append (start_of lists) waiting (g ∷ []) in
+      let run : now_of parts (waiting ++ g ∷ []) ≡ step (now_of parts waiting) g = eager_append (start_of parts) waiting (g ∷ []) in
       record {
         lawful = k.lawful;
         fitting = k.fitting;
@@ -201,8 +209,8 @@ module _ (bases : List (ℕ × Elem)) (live : ℕ → Bool) (past : List Op) (li
         slots = slots_joined waiting g slot k.slots;
         order = pairs_more (λ f h. may_precede f h ≡ true) waiting g k.order
             (all_two (Home bases) (λ f. AllByRecursion (λ b. live b ≡ false) (freed f)) (λ f. may_precede f g ≡ true) (λ f h d. precedes bases live f g h d a) waiting k.home k.gone);
-        fits_start = all_append (λ f. op_fits (start_of lists) (waiting ++ g ∷ []) f ≡ true) waiting (g ∷ [])
-            (All_weaker (λ f. op_fits (start_of lists) waiting f ≡ true) (λ f. op_fits (start_of lists) (waiting ++ g ∷ []) f ≡ true) (λ f t. fits_more (start_of lists) waiting g f t) waiting k.fits_start)
+        fits_start = all_append (λ f. op_fits (start_of parts) (waiting ++ g ∷ []) f ≡ true) waiting (g ∷ [])
+            (All_weaker (λ f. op_fits (start_of parts) waiting f ≡ true) (λ f. op_fits (start_of parts) (waiting ++ g ∷ []) f ≡ true) (λ f t. fits_more (start_of parts) waiting g f t) waiting k.fits_start)
             (fits_last, tt);
         gone = all_append (λ f. AllByRecursion (λ b. live_after live g b ≡ false) (freed f)) waiting (g ∷ [])
             (all_two (Home bases) (λ f. AllByRecursion (λ b. live b ≡ false) (freed f)) (λ f. AllByRecursion (λ b. live_after live g b ≡ false) (freed f)) (λ f h d. still_gone f h d) waiting k.home k.gone)
@@ -214,9 +222,9 @@ module _ (bases : List (ℕ × Elem)) (live : ℕ → Bool) (past : List Op) (li
         stored = λ b h. subst (λ (m : Memory). Stored (place_of (bases ++ made_by g) b) (m.bases b)) (sym run) (now_more b h);
         absent = λ b h. ap (λ (m : Memory). m.bases b) run ∙ absent_more b h;
         same = λ b h. ap (λ (m : Memory). m.bases b) run ∙ same b h;
-        prints = ap (λ ss. printed_lists empty lists ++ ss) (printed_more (start_of lists) waiting g slot)
-            ∙ sym (append_assoc (printed_lists empty lists) (printed (start_of lists) waiting) (shown_at g.slot (content (now_of lists waiting) g)))
-            ∙ ap (λ ss. ss ++ shown_at g.slot (content (now_of lists waiting) g)) k.prints ∙ prints;
+        prints = ap (λ ss. printed_parts empty parts ++ ss) (printed_more (start_of parts) waiting g slot)
+            ∙ sym (append_assoc (printed_parts empty parts) (printed (start_of parts) waiting) (shown_at g.slot (content (now_of parts waiting) g)))
+            ∙ ap (λ ss. ss ++ shown_at g.slot (content (now_of parts waiting) g)) k.prints ∙ prints;
       }
     where
       freed_not : (b : ℕ) → has (freed g) b ≡ true → live_after live g b ≡ false
@@ -226,15 +234,22 @@ module _ (bases : List (ℕ × Elem)) (live : ℕ → Bool) (past : List Op) (li
           and_false true = refl
           and_false false = refl
 
+-- what is not made is not live
+pub not_live : (bases : List (ℕ × Elem)) (live : ℕ → Bool) → ((b : ℕ) → live b ≡ true → b < length bases) → (b : ℕ) → length bases ≤ b → live b ≡ false
+not_live bases live below b l = elim (live b) as (λ t. live b ≡ t → t ≡ false) [
+  | true ↦ λ e. absurd (let n : b < length bases = below b e in omega arith)
+  | false ↦ λ e. refl
+] refl
+
 -- ---- a cut
 
-pub kept_cut : (bases : List (ℕ × Elem)) (live : ℕ → Bool) (past : List Op) (lists : List (List Op)) (waiting : List Op) → 1 ≤ length waiting → Kept bases live past lists waiting
-    → Kept bases live past (lists ++ waiting ∷ []) []
-kept_cut bases live past lists waiting some k =
-    let start : start_of (lists ++ waiting ∷ []) ≡ after_list (start_of lists) waiting = after_lists_more empty lists waiting in
-    let bases_are : (b : ℕ) → (start_of (lists ++ waiting ∷ [])).bases b ≡ (now_of lists waiting).bases b = λ b. ap (λ (m : Memory). m.bases b) start in
+pub kept_cut : (bases : List (ℕ × Elem)) (live : ℕ → Bool) (past : Progress) (parts : List Part) (waiting : List Op) → 1 ≤ length waiting → Kept bases live past parts waiting
+    → Kept bases live past (parts ++ Flush waiting ∷ []) []
+kept_cut bases live past parts waiting some k =
+    let start : start_of (parts ++ Flush waiting ∷ []) ≡ after_part (start_of parts) (Flush waiting) = after_parts_more empty parts (Flush waiting) in
+    let bases_are : (b : ℕ) → (start_of (parts ++ Flush waiting ∷ [])).bases b ≡ (now_of parts waiting).bases b = λ b. ap (λ (m : Memory). m.bases b) start in
     record {
-      lawful = all_append Lawful lists (waiting ∷ []) k.lawful (
+      lawful = all_append LawfulPart parts (Flush waiting ∷ []) k.lawful (
         record {
           formed = formed_if bases waiting k.home (k.slots ∙ ap (range_with_len 1) (sym (ap length (slot_list waiting)))) k.order;
           some = some;
@@ -242,7 +257,7 @@ kept_cut bases live past lists waiting some k =
         },
         tt,
       );
-      fitting = each_fits_more empty lists waiting k.fitting (test_all (op_fits (start_of lists) waiting) waiting k.fits_start);
+      fitting = each_fits_more empty parts (Flush waiting) k.fitting (test_all (op_fits (start_of parts) waiting) waiting k.fits_start);
       few = omega arith;
       home = tt;
       slots = refl;
@@ -250,17 +265,11 @@ kept_cut bases live past lists waiting some k =
       fits_start = tt;
       gone = tt;
       below = k.below;
-      unmade = λ b l. bases_are b ∙ k.absent b (dead b l);
+      unmade = λ b l. bases_are b ∙ k.absent b (not_live bases live k.below b l);
       bare = λ s. ap (λ (m : Memory). m.slots s) start;
       source = λ b h. inr (subst (Stored (place_of bases b)) (sym (bases_are b)) (k.stored b h));
       stored = λ b h. subst (Stored (place_of bases b)) (sym (bases_are b)) (k.stored b h);
       absent = λ b h. bases_are b ∙ k.absent b h;
       same = λ b h. bases_are b ∙ k.same b h;
-      prints = append-nil (printed_lists empty (lists ++ waiting ∷ [])) ∙ printed_lists_more empty lists waiting ∙ k.prints;
+      prints = append-nil (printed_parts empty (parts ++ Flush waiting ∷ [])) ∙ printed_parts_more empty parts (Flush waiting) ∙ k.prints;
     }
-  where
-    dead : (b : ℕ) → length bases ≤ b → live b ≡ false
-    dead b l = elim (live b) as (λ t. live b ≡ t → t ≡ false) [
-      | true ↦ λ e. absurd (let n : b < length bases = k.below b e in omega arith)
-      | false ↦ λ e. refl
-    ] refl

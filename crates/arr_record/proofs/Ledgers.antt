@@ -21,7 +21,7 @@ use Rattle.arr_ops.proofs.Fits.{or_first, or_second}
 use Rattle.arr_ops.proofs.FitsLaw.{all_append}
 use Rattle.arr_elab.specs.Recording.{other_names}
 use Rattle.arr_ops.proofs.Spots.{all_two}
-use Rattle.arr_record.specs.Flushes.{unnamed, is_named}
+use Rattle.arr_record.specs.Parts.{unnamed, is_named}
 use Rattle.arr_record.specs.Ledger.{Ledger, Owned, base_of, found, names_for, lives, with_types}
 use Rattle.arr_record.proofs.Home.{test_pairs}
 use Rattle.arr_record.proofs.Joined.{pairs_more}

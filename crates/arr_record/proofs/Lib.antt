@@ -4,6 +4,7 @@ pub mod Cells
 pub mod Joined
 pub mod Kept
 pub mod Recorded
+pub mod Alone
 pub mod Freed
 pub mod Walk
 pub mod Few

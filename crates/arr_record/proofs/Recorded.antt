@@ -49,7 +49,7 @@ pub record Standing (scene : Scene) (t : Elem) (v : Strided) : Type 0 where
   pub type_is : t ≡ (place_of scene.bases v.base).1
   pub inside : InsideAmong scene.bases v
 
-standing : (scene : Scene) (t : Elem) (v : Strided) → stands scene t v ≡ true → Standing scene t v
+pub standing : (scene : Scene) (t : Elem) (v : Strided) → stands scene t v ≡ true → Standing scene t v
 standing scene t v h =
     let alive : is_live scene v.base ≡ true = both_left (is_live scene v.base) _ h in
     let rest = both_right (is_live scene v.base) _ h in
@@ -85,7 +85,7 @@ range_below : (a n k : ℕ) → a + n ≤ k → list_all (λ e. nat_lt e k) (ran
 range_below a zero k h = refl
 range_below a (suc n) k h = ap₂ (λ x y. x && y) (lt-ltb a k (omega arith)) (range_below (a + 1) n k (omega arith))
 
-made_place : (bases : List (ℕ × Elem)) (p : ℕ × Elem) (b : ℕ) → b ≡ length bases → place_of (bases ++ p ∷ []) b ≡ p
+pub made_place : (bases : List (ℕ × Elem)) (p : ℕ × Elem) (b : ℕ) → b ≡ length bases → place_of (bases ++ p ∷ []) b ≡ p
 made_place bases p b e = ap (place_of (bases ++ p ∷ [])) e ∙ get_or-append_seam bases p [] (0, U8)
 
 made_placed : (bases : List (ℕ × Elem)) (t : Elem) (o : Strided) → o.base ≡ length bases → is_whole o ≡ true

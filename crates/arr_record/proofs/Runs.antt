@@ -8,10 +8,11 @@ use Rattle.arr_num.specs.declared.code.Code.{Code}
 use Rattle.arr_num.specs.declared.code.Code.TheVariants.{Sync}
 use Rattle.arr_ops.specs.declared.op.Op.{Op}
 use Rattle.arr_ops.specs.Memory.{Memory, Slot, eager, step, computed, lengths_of, slot_after}
-use Rattle.arr_ops.specs.Fits.{fits}
 use Rattle.arr_ops.proofs.Tests.{both_left, both_right}
-use Rattle.arr_elab.specs.Steps.{printed, slot_count, slots_to, slot_from, next_slot}
-use Rattle.arr_record.specs.Runs.{after_list, after_lists, printed_lists, each_fits}
+use Rattle.arr_elab.specs.declared.step.Step.TheVariants.{Act}
+use Rattle.arr_elab.specs.Steps.{Progress, run_step, shown, printed, slot_count, slots_to, slot_from, filled_after, with_slot}
+use Rattle.arr_record.specs.declared.part.Part.{Part}
+use Rattle.arr_record.specs.Runs.{after_part, after_parts, printed_part, printed_parts, part_fits, each_fits}
 
 -- ---- memory
 
@@ -19,39 +20,31 @@ pub eager_append : (m : Memory) (fs gs : List Op) → eager m (fs ++ gs) ≡ eag
 eager_append m [] gs = refl
 eager_append m (f ∷ fs) gs = eager_append (step m f) fs gs
 
-pub after_lists_more : (m : Memory) (lists : List (List Op)) (list : List Op) → after_lists m (lists ++ list ∷ []) ≡ after_list (after_lists m lists) list
-after_lists_more m [] list = refl
-after_lists_more m (l ∷ ls) list = after_lists_more (after_list m l) ls list
+pub after_parts_more : (m : Memory) (parts : List Part) (part : Part) → after_parts m (parts ++ part ∷ []) ≡ after_part (after_parts m parts) part
+after_parts_more m [] part = refl
+after_parts_more m (p ∷ ps) part = after_parts_more (after_part m p) ps part
 
-pub printed_lists_more : (m : Memory) (lists : List (List Op)) (list : List Op) → printed_lists m (lists ++ list ∷ []) ≡ printed_lists m lists ++ printed (after_lists m lists) list
-printed_lists_more m [] list = append-nil (printed m list)
-printed_lists_more m (l ∷ ls) list =
-    ap (λ ss. printed m l ++ ss) (printed_lists_more (after_list m l) ls list)
-    ∙ sym (append_assoc (printed m l) (printed_lists (after_list m l) ls) (printed (after_lists (after_list m l) ls) list))
+pub printed_parts_more : (m : Memory) (parts : List Part) (part : Part) → printed_parts m (parts ++ part ∷ []) ≡ printed_parts m parts ++ printed_part (after_parts m parts) part
+printed_parts_more m [] part = append-nil (printed_part m part)
+printed_parts_more m (p ∷ ps) part =
+    ap (λ ss. printed_part m p ++ ss) (printed_parts_more (after_part m p) ps part)
+    ∙ sym (append_assoc (printed_part m p) (printed_parts (after_part m p) ps) (printed_part (after_parts (after_part m p) ps) part))
 
-pub each_fits_more : (m : Memory) (lists : List (List Op)) (list : List Op) → each_fits m lists ≡ true → fits (after_lists m lists) list ≡ true → each_fits m (lists ++ list ∷ []) ≡ true
-each_fits_more m [] list a b = ap₂ (λ x y. x && y) b refl
-each_fits_more m (l ∷ ls) list a b =
-    ap₂ (λ x y. x && y) (both_left (fits m l) _ a) (each_fits_more (after_list m l) ls list (both_right (fits m l) _ a) b)
+pub each_fits_more : (m : Memory) (parts : List Part) (part : Part) → each_fits m parts ≡ true → part_fits (after_parts m parts) part ≡ true → each_fits m (parts ++ part ∷ []) ≡ true
+each_fits_more m [] part a b = ap₂ (λ x y. x && y) b refl
+each_fits_more m (p ∷ ps) part a b =
+    ap₂ (λ x y. x && y) (both_left (part_fits m p) _ a) (each_fits_more (after_part m p) ps part (both_right (part_fits m p) _ a) b)
 
 -- ---- slots
 
-pub slot_cases : (next : ℕ) (code : Code) → ((slot_from next code ≡ None) × (next_slot next code ≡ next)) ⊎ ((slot_from next code ≡ Some next) × (next_slot next code ≡ suc next))
-slot_cases next Sync = inr (refl, refl)
-slot_cases next _ = inl (refl, refl)
+pub slot_cases : (n : ℕ) (code : Code) → ((slot_from (suc n) code ≡ None) × (filled_after n code ≡ n)) ⊎ ((slot_from (suc n) code ≡ Some (suc n)) × (filled_after n code ≡ suc n))
+slot_cases n Sync = inr (refl, refl)
+slot_cases n _ = inl (refl, refl)
 
 pub slot_count_more : (ops : List Op) (op : Op) → slot_count (ops ++ op ∷ []) ≡ slot_count ops + length (option_to_list op.slot)
 slot_count_more ops op =
     let slots : Op → List ℕ = λ (f : Op). option_to_list f.slot in
     ap length (flat_map-append slots ops (op ∷ []) ∙ ap (λ xs. flat_map slots ops ++ xs) (append-nil (option_to_list op.slot))) ∙ length-append (flat_map slots ops) (option_to_list op.slot)
-
-pub next_slot_is : (ops : List Op) (op : Op) → op.slot ≡ slot_from (suc (slot_count ops)) op.code → next_slot (suc (slot_count ops)) op.code ≡ suc (slot_count (ops ++ op ∷ []))
-next_slot_is ops op e =
-    let more : slot_count (ops ++ op ∷ []) ≡ slot_count ops + length (option_to_list op.slot) = slot_count_more ops op in
-    ⊎_elim
-    (λ h. let none : length (option_to_list op.slot) ≡ 0 = ap (λ s. length (option_to_list s)) (e ∙ h.0) in h.1 ∙ omega arith)
-    (λ h. let one : length (option_to_list op.slot) ≡ 1 = ap (λ s. length (option_to_list s)) (e ∙ h.0) in h.1 ∙ omega arith)
-    (slot_cases (suc (slot_count ops)) op.code)
 
 -- what an operation puts into a slot
 abbrev pub shown_at : Option ℕ → Slot → List Slot
@@ -105,7 +98,17 @@ printed_more m ops op e =
     let one_more : length (option_to_list op.slot) ≡ 1 = ap (λ s. length (option_to_list s)) some in
     ap (λ k. slots_to k (step (eager m ops) op)) (let same : slot_count (ops ++ op ∷ []) ≡ suc n = omega arith in same)
     ∙ slots_more (eager m ops) op n some ∙ ap (λ s. slots_to n (eager m ops) ++ shown_at s (content (eager m ops) op)) (sym some))
-    (slot_cases (suc n) op.code)
+    (slot_cases n op.code)
+
+-- an operation that runs as it is reached
+pub shown_more : (p : Progress) (op : Op) → shown (run_step p (Act op)) ≡ shown p ++ shown_at (slot_from (suc p.filled) op.code) (content p.memory op)
+shown_more p op =
+    let n : ℕ = p.filled in
+    let g : Op = with_slot op (slot_from (suc n) op.code) in
+    ⊎_elim
+    (λ h. ap (λ k. slots_to k (step p.memory g)) h.1 ∙ slots_kept p.memory g n h.0 ∙ sym (append-nil (slots_to n p.memory)) ∙ ap (λ s. slots_to n p.memory ++ shown_at s (content p.memory op)) (sym h.0))
+    (λ h. ap (λ k. slots_to k (step p.memory g)) h.1 ∙ slots_more p.memory g n h.0 ∙ ap (λ s. slots_to n p.memory ++ shown_at s (content p.memory op)) (sym h.0))
+    (slot_cases n op.code)
 
 pub slot_count_few : (ops : List Op) → slot_count ops ≤ length ops
 slot_count_few [] = omega arith

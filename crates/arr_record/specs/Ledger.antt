@@ -9,7 +9,7 @@ use Rattle.arr_num.specs.declared.elem.Elem.TheVariants.{U8}
 use Rattle.arr_ops.specs.Formed.{all_pairs}
 use Rattle.arr_elab.specs.Recording.{Scene, is_live, after_step}
 use Rattle.arr_elab.specs.declared.step.Step.{Step}
-use Rattle.arr_record.specs.Flushes.{State, Written, unnamed}
+use Rattle.arr_record.specs.Parts.{State, Written, unnamed}
 
 -- the bases of the names as a map's entries, the type of each base made so far, how many names stand for each, and the live bases that no name stands for
 pub record Ledger : Type 0 where

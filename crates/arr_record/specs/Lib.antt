@@ -1,4 +1,4 @@
-pub mod Flushes
+pub mod Parts
 pub mod Runs
 pub mod Examples
 pub mod Ledger

@@ -4,7 +4,7 @@ ghost use Rattle.arr_num.specs.declared.elem.Elem.{Elem};
 ghost use Rattle.arr_elab.specs.Recording.{other_names};
 ghost use Rattle.std.specs.List.{AllByRecursion};
 ghost use Rattle.arr_ops.specs.Ops.{outputs};
-ghost use Rattle.arr_record.specs.Flushes.{free_each, made};
+ghost use Rattle.arr_record.specs.Parts.{free_each, made};
 ghost use Rattle.arr_record.specs.Ledger.{lives, with_types, Known, Owned};
 
 use crate::NoMemory;

@@ -1,17 +1,16 @@
-//! From steps to lists.
+//! From steps to parts.
 ghost use Rattle.std.specs.Prelude.{ℕ, ◌≡◌, true, None, IfOk, OnOk};
 ghost use Rattle.std.specs.List.{list_all};
-ghost use Rattle.arr_ops.specs.Formed.{is_formed};
 ghost use Rattle.arr_ops.specs.Memory.{empty};
 ghost use Rattle.arr_elab.specs.Recording.{is_recording};
 ghost use Rattle.arr_elab.specs.Steps.{eager_arrays};
-ghost use Rattle.arr_record.specs.Flushes.{after, flush_lists};
+ghost use Rattle.arr_record.specs.Parts.{after, parts_of};
 ghost use Rattle.arr_record.specs.Ledger.{Follows, Ready};
-ghost use Rattle.arr_record.specs.Runs.{after_lists, each_fits, is_sized, printed_lists};
+ghost use Rattle.arr_record.specs.Runs.{after_parts, each_fits, is_part, printed_parts};
 
 use crate::NoMemory;
-use crate::flush::Flush;
 use crate::owners::Owners;
+use crate::part::Part;
 use crate::writer::Writer;
 use arr_elab::Step;
 use std::alloc::Global;
@@ -31,6 +30,11 @@ fn follow(
             owners.make_for(op)?;
             writer.append(alloc, op.copied())
         }
+        Step::Gather(gather) => {
+            owners.make(gather.out.base(), gather.to)?;
+            writer.put(alloc, Part::Gather(gather.copied()))
+        }
+        Step::Scatter(scatter) => writer.put(alloc, Part::Scatter(scatter.copied())),
         Step::Name { name, base } => owners.bind(*name, *base),
         Step::Forget { name } => owners.release(*name),
         Step::Done => owners.free_loose(alloc, writer),
@@ -38,16 +42,17 @@ fn follow(
     }
 }
 
-/// The lists of operations that the steps of an accepted script run one after another, with FREEs and slots, cut after 256
-/// operations and at each flush (docs/PLANS.md, "Flushes"). Want of memory is its one refusal.
-pub fn flushes(alloc: Global, steps: &[Step]) -> Result<Vec<Flush>, NoMemory>
+/// The parts that the steps of an accepted script run one after another: lists of operations, with FREEs and slots, cut after 256
+/// operations and at each flush, and the gathers and scatters between them, each behind what waits (docs/PLANS.md, "Flushes"). Want of
+/// memory is its one refusal.
+pub fn parts(alloc: Global, steps: &[Step]) -> Result<Vec<Part>, NoMemory>
     requires recording { is_recording steps.now ≡ true }
-    ensures lists { IfOk result (λ flushes. flushes.items ≡ flush_lists steps.now) }
-    ensures formed { IfOk result (λ flushes. list_all is_formed flushes.items ≡ true) }
-    ensures sized { IfOk result (λ flushes. list_all is_sized flushes.items ≡ true) }
-    ensures fitting { IfOk result (λ flushes. each_fits empty flushes.items ≡ true) }
-    ensures prints { IfOk result (λ flushes. printed_lists empty flushes.items ≡ eager_arrays steps.now) }
-    ensures emptied { IfOk result (λ flushes. (b : ℕ) → (after_lists empty flushes.items).bases b ≡ None) }
+    ensures parts { IfOk result (λ parts. parts.items ≡ parts_of steps.now) }
+    // Each list is formed and has 1 to 256 operations; each gather and scatter is one.
+    ensures formed { IfOk result (λ parts. list_all is_part parts.items ≡ true) }
+    ensures fitting { IfOk result (λ parts. each_fits empty parts.items ≡ true) }
+    ensures prints { IfOk result (λ parts. printed_parts empty parts.items ≡ eager_arrays steps.now) }
+    ensures emptied { IfOk result (λ parts. (b : ℕ) → (after_parts empty parts.items).bases b ≡ None) }
 {
     let mut writer = Writer::new(alloc);
     let mut owners = Owners::new(alloc);
@@ -57,5 +62,5 @@ pub fn flushes(alloc: Global, steps: &[Step]) -> Result<Vec<Flush>, NoMemory>
     owners.release_all(alloc)?;
     owners.free_loose(alloc, &mut writer)?;
     writer.cut(alloc)?;
-    Ok(writer.into_flushes())
+    Ok(writer.into_parts())
 }

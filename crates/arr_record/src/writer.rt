@@ -1,10 +1,10 @@
-//! The lists cut so far, and the operations that wait.
+//! The parts so far, and the operations that wait.
 ghost use Rattle.std.specs.Prelude.{suc, [], ◌∷◌, ◌≡◌, OnOk, None};
 ghost use Rattle.arr_elab.specs.Steps.{slot_from, slot_count};
-ghost use Rattle.arr_record.specs.Flushes.{append, cut, free, next_op};
+ghost use Rattle.arr_record.specs.Parts.{append, cut, free, next_op, put};
 
 use crate::NoMemory;
-use crate::flush::Flush;
+use crate::part::{Ops, Part};
 use arr_num::{Code, Elem};
 use arr_ops::Op;
 use std::alloc::Global;
@@ -14,10 +14,10 @@ use std::mem;
 /// The most operations of a list.
 const MOST: usize = 256;
 
-/// The lists cut so far and the list that waits. A contract sees both.
+/// The parts so far and the list that waits. A contract sees both.
 #[derive(Drop)]
 pub(crate) struct Writer {
-    flushes: Vec<Flush>,
+    parts: Vec<Part>,
     waiting: Vec<Op>,
     /// How many slots the waiting list fills.
     slots: u32,
@@ -26,11 +26,11 @@ pub(crate) struct Writer {
 impl Model for Writer {
     ghost use Rattle.std.specs.Prelude.{◌≡◌, ◌<◌, length};
     ghost use Rattle.arr_elab.specs.Steps.{slot_count};
-    ghost use Rattle.arr_record.specs.Flushes.{Written};
+    ghost use Rattle.arr_record.specs.Parts.{Written};
 
     ghost Value = { Written };
 
-    ghost view = { λ w. record { lists = w.flushes.items; waiting = w.waiting.items } };
+    ghost view = { λ w. record { parts = w.parts.items; waiting = w.waiting.items } };
 
     ghost invariant = { λ w. (w.slots ≡ slot_count w.waiting.items) × (length w.waiting.items < 256) };
 }
@@ -55,10 +55,10 @@ pub(crate) fn free_of(base: u32, elem: Elem) -> Op
 
 impl Writer {
     pub(crate) fn new(alloc: Global) -> Writer
-        ensures { result ≡ record { lists = []; waiting = [] } }
+        ensures { result ≡ record { parts = []; waiting = [] } }
     {
         Writer {
-            flushes: Vec::new(alloc),
+            parts: Vec::new(alloc),
             waiting: Vec::new(alloc),
             slots: 0,
         }
@@ -90,8 +90,8 @@ impl Writer {
         if self.waiting.is_empty() {
             return Ok(());
         }
-        let ops = self.take(alloc);
-        self.flushes.push(Flush { ops })?;
+        let list = self.take(alloc);
+        self.parts.push(Part::Flush(Ops { list }))?;
         Ok(())
     }
 
@@ -102,9 +102,9 @@ impl Writer {
         let slot = self.slot_for(op.code);
         op.slot = slot;
         if self.waiting.len() + 1 == MOST {
-            let mut ops = self.take(alloc);
-            ops.push(op)?;
-            self.flushes.push(Flush { ops })?;
+            let mut list = self.take(alloc);
+            list.push(op)?;
+            self.parts.push(Part::Flush(Ops { list }))?;
             return Ok(());
         }
         self.waiting.push(op)?;
@@ -114,10 +114,19 @@ impl Writer {
         Ok(())
     }
 
-    /// The lists that were cut.
-    pub(crate) fn into_flushes(self) -> Vec<Flush>
-        ensures { result.items ≡ self.lists }
+    /// A gather or scatter stands behind what waits.
+    pub(crate) fn put(&mut self, alloc: Global, part: Part) -> Result<(), NoMemory>
+        ensures { OnOk result (self.new ≡ put self.old part) }
     {
-        self.flushes
+        self.cut(alloc)?;
+        self.parts.push(part)?;
+        Ok(())
+    }
+
+    /// The parts.
+    pub(crate) fn into_parts(self) -> Vec<Part>
+        ensures { result.items ≡ self.parts }
+    {
+        self.parts
     }
 }

@@ -167,11 +167,11 @@ fits_apart m b c d f same h e =
     (both_right (list_all (λ (n : Need). c n.base || meets_need (m.bases n.base) n) (needs f)) _ e)
 
 -- an operation that frees the base does nothing else, and another doesn't name it
-record Aside (b : ℕ) (f : Op) : Type 0 where
-  frees : frees_base f b ≡ true → Free f
-  unnamed : frees_base f b ≡ false → has (named f) b ≡ false
+pub record Aside (b : ℕ) (f : Op) : Type 0 where
+  pub frees : frees_base f b ≡ true → Free f
+  pub unnamed : frees_base f b ≡ false → has (named f) b ≡ false
 
-aside : (b : ℕ) (f : Op) → well_formed f ≡ true → (frees_base f b || not (has (named f) b)) ≡ true → Aside b f
+pub aside : (b : ℕ) (f : Op) → well_formed f ≡ true → (frees_base f b || not (has (named f) b)) ≡ true → Aside b f
 aside b f well h = record {
   frees = λ t. free_bare (kind f.code) f b (operands_of f well) t;
   unnamed = λ t. not_is (has (named f) b) (ap (λ k. k || not (has (named f) b)) (sym t) ∙ h);

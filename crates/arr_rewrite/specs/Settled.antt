@@ -18,7 +18,7 @@ Settled (suc n) front (op ∷ back) = IsQuiet front (op ∷ back) × Settled n (
 abbrev pub SettledTo : ℕ → List Op → Type 0
 SettledTo n list = Settled n [] list
 
--- what a search leaves: no application, or the list after it, settled up to a place
-abbrev pub Searched : Option (List Op) → List Op → Option ℕ → Type 0
-Searched next list None = next ≡ None
-Searched next list (Some n) = (next ≡ Some list) × (n ≤ length list) × SettledTo n list
+-- what a search for the next application leaves: the rest of the search, or the list after it, settled up to a place
+abbrev pub Searched : Option (List Op) → Option (List Op) → List Op → Option ℕ → Type 0
+Searched next rest list None = next ≡ rest
+Searched next rest list (Some n) = (next ≡ Some list) × (n ≤ length list) × SettledTo n list

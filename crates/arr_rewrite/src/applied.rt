@@ -51,10 +51,14 @@ fn remove_copy(list: &mut Vec<Op>, place: usize) -> bool
     false
 }
 
-/// Removes the operation at the place, where it makes a base that nothing uses, and what frees the base.
+/// Removes the operation at the place, where it makes a base that nothing uses, and what frees the base. The places before it stay
+/// settled: none names the base.
 fn remove_unused(list: &mut Vec<Op>, place: usize) -> bool
-    requires { place < length list.now.items }
+    requires place { place < length list.now.items }
+    requires formed { is_formed list.now.items ≡ true }
     ensures left { (op : Op) → op ≡ get_or list.old.items place op → unused (take place list.old.items) op (drop (place + 1) list.old.items) op.out ≡ cond result (Some list.new.items) None }
+    ensures long { place ≤ length list.new.items }
+    ensures settled { SettledTo place list.old.items → SettledTo place list.new.items }
     ensures kept { result ≡ false → list.new.items ≡ list.old.items }
 {
     let ops = list.as_slice();
@@ -68,19 +72,21 @@ fn remove_unused(list: &mut Vec<Op>, place: usize) -> bool
     }
 }
 
-/// Makes the application of least place among the settled ones, and tells whether there is one: it can but remove an unused base.
-fn rewrite_settled(list: &mut Vec<Op>, settled: usize) -> bool
+/// Makes the application of least place among the settled ones, which can but remove an unused base, and tells how many places are
+/// settled then; `None` where there is no application.
+fn rewrite_settled(list: &mut Vec<Op>, settled: usize) -> Option<usize>
+    requires formed { is_formed list.now.items ≡ true }
     requires few { settled ≤ length list.now.items }
     requires settled { SettledTo settled list.now.items }
-    ensures next { next_rewrite list.old.items ≡ cond result (Some list.new.items) (rewrite_from (take settled list.old.items) (drop settled list.old.items)) }
-    ensures kept { result ≡ false → list.new.items ≡ list.old.items }
+    ensures next { Searched (next_rewrite list.old.items) (rewrite_from (take settled list.old.items) (drop settled list.old.items)) list.new.items result }
+    ensures kept { result ≡ None → list.new.items ≡ list.old.items }
 {
     for place in 0..settled {
         if remove_unused(list, place) {
-            return true;
+            return Some(place);
         }
     }
-    false
+    None
 }
 
 /// Makes the application of least place behind the settled ones, and tells how many places are settled then; `None` where there is
@@ -93,7 +99,7 @@ fn rewrite_rest(
     requires formed { is_formed list.now.items ≡ true }
     requires few { settled ≤ length list.now.items }
     requires settled { SettledTo settled list.now.items }
-    ensures next { IfOk result (λ place. Searched (rewrite_from (take settled list.old.items) (drop settled list.old.items)) list.new.items place) }
+    ensures next { IfOk result (λ place. Searched (rewrite_from (take settled list.old.items) (drop settled list.old.items)) None list.new.items place) }
     ensures kept { IfOk result (λ place. place ≡ None → list.new.items ≡ list.old.items) }
 {
     for place in settled..list.len() {
@@ -104,7 +110,7 @@ fn rewrite_rest(
             return Ok(Some(0));
         }
         if remove_unused(list, place) {
-            return Ok(Some(0));
+            return Ok(Some(place));
         }
     }
     Ok(None)
@@ -119,13 +125,13 @@ fn rewrite_once(
     requires formed { is_formed list.now.items ≡ true }
     requires few { settled ≤ length list.now.items }
     requires settled { SettledTo settled list.now.items }
-    ensures next { IfOk result (λ place. Searched (next_rewrite list.old.items) list.new.items place) }
+    ensures next { IfOk result (λ place. Searched (next_rewrite list.old.items) None list.new.items place) }
     ensures kept { IfOk result (λ place. place ≡ None → list.new.items ≡ list.old.items) }
 {
-    if rewrite_settled(list, settled) {
-        return Ok(Some(0));
+    match rewrite_settled(list, settled) {
+        Some(place) => Ok(Some(place)),
+        None => rewrite_rest(meetings, list, settled),
     }
-    rewrite_rest(meetings, list, settled)
 }
 
 fn copied(alloc: Global, ops: &[Op]) -> Result<Vec<Op>, NoMemory>

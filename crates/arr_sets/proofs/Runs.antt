@@ -103,13 +103,13 @@ module _ (words : List ℕ) (from end index low high : ℕ) (was : ℕ → Bool)
 
 -- ---- the set
 
-length-with_run : (row : List Bool) (from count : ℕ) → from + count ≤ length row → length (with_run row from count) ≡ length row
+pub length-with_run : (row : List Bool) (from count : ℕ) → from + count ≤ length row → length (with_run row from count) ≡ length row
 length-with_run row from count h =
     length-append (take from row ++ replicate count true) (drop (from + count) row)
     ∙ ap₂ (λ a b. a + b) (length-append (take from row) (replicate count true) ∙ ap₂ (λ a b. a + b) (length-take-le from row (omega arith)) (length-replicate count true)) (length-drop (from + count) row)
     ∙ omega arith
 
-run_at : (row : List Bool) (from count i : ℕ) → from + count ≤ length row → i < length row → get_or (with_run row from count) i false ≡ (in_run from (from + count) i || get_or row i false)
+pub run_at : (row : List Bool) (from count i : ℕ) → from + count ≤ length row → i < length row → get_or (with_run row from count) i false ≡ (in_run from (from + count) i || get_or row i false)
 run_at row from count i h l =
     elim (nat_lt i from) as (λ b. nat_lt i from ≡ b → get_or (with_run row from count) i false ≡ (in_run from (from + count) i || get_or row i false)) [
       | true ↦ λ e.

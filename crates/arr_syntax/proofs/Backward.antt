@@ -19,6 +19,9 @@ use Rattle.arr_syntax.specs.declared.state.Node.TheVariants as node
 use Rattle.arr_syntax.specs.declared.state.Fields.{Fields}
 use Rattle.arr_syntax.specs.declared.state.Part.{Part}
 use Rattle.arr_syntax.specs.declared.state.Part.TheVariants as part
+use Rattle.arr_syntax.specs.declared.state.Head.TheVariants as head
+use Rattle.arr_syntax.specs.declared.state.Role.{Role}
+use Rattle.arr_syntax.specs.declared.state.Role.TheVariants as role
 use Rattle.arr_syntax.specs.declared.state.Frame.{Frame}
 use Rattle.arr_syntax.specs.declared.state.Frame.TheVariants as frame
 use Rattle.arr_syntax.specs.declared.state.State.{State}
@@ -35,7 +38,7 @@ use Rattle.arr_syntax.specs.Grammar as grammar
 use Rattle.arr_syntax.specs.Grammar.{IsSign, IsKeyword, Rest, Level, Primary, Placed, ViewCall, Argument, Ends, Script, OneStatement, operator, comparison, index_at, name_of, word_at, unary_at, binary_at}
 use Rattle.arr_syntax.specs.Machine as machine
 use Rattle.arr_syntax.specs.Machine.{level, sign_level, rank, operate, goes, give, leaves, fits, step, again, wanted_by, wanted, fresh, fill, parts_of, level_of, built, take_part, onward, opened}
-use Rattle.arr_syntax.proofs.Completes.{IsEmpty, Fills, NextPart, Climb, there, up, After, Given, Tree, Wants, Completes, Next, Formed, Takes, WellFormed}
+use Rattle.arr_syntax.proofs.Completes.{IsEmpty, Fills, NextPart, Then, Climb, there, up, Closed, Supplied, OpensIn, BoundIn, After, Given, Tree, Wants, Completes, Next, Formed, Takes, WellFormed}
 use Rattle.arr_syntax.proofs.Filling.{item, fill_back}
 use Rattle.arr_syntax.proofs.Forward.{climb_most, operator_within, again_same, again_most}
 
@@ -150,6 +153,21 @@ module _ (r : List Statement) where
   assigns_back (token.Sign sign.Assign) at s u ts k = (refl, k)
   assigns_back _ at s u ts k = absurd k
 
+  asks_back : (f : Role) (t : Token) (i_at at : Place) (ts : List Item) → Next (machine.asks_next t f at) ts r → Then (item t i_at ∷ ts) (λ i b. IsSign i sign.Comma × Completes (machine.asks f at) b r)
+  asks_back f (token.Sign sign.Comma) i_at at ts k = (refl, k)
+  asks_back f _ i_at at ts k = absurd k
+
+  finishes_back : (t : Token) (i_at : Place) (st : Statement) (ts : List Item) → Next (machine.finishes t st) ts r → Closed st (item t i_at ∷ ts) r
+  finishes_back (token.Sign sign.Close) i_at st ts k = (refl, k)
+  finishes_back _ i_at st ts k = absurd k
+
+  answers_back : (f : Role) (at : Place) (u : Expr) (i : Item) (ts : List Item) → Next (machine.answers f at u i.token) ts r → Supplied f at u (i ∷ ts) r
+  answers_back (role.Source w) at u i ts k = asks_back (role.Index w u) i.token i.at at ts k
+  answers_back (role.Index w t) at u i ts k = finishes_back i.token i.at _ ts k
+  answers_back role.Target at u i ts k = asks_back (role.Places u) i.token i.at at ts k
+  answers_back (role.Places t) at u i ts k = asks_back (role.Values t u) i.token i.at at ts k
+  answers_back (role.Values t x) at u i ts k = finishes_back i.token i.at _ ts k
+
   closes_back : (t : Token) (at : Place) (s : List Frame) (u : Expr) (ts : List Item) → Next (machine.closes t s u) ts r → After (frame.Bracket ∷ s) u (item t at ∷ ts) r
   closes_back (token.Sign sign.Close) at s u ts k = (refl, k)
   closes_back _ at s u ts k = absurd k
@@ -194,6 +212,7 @@ module _ (r : List Statement) where
   give_back [] n t i ts w h k = absurd k
   give_back (frame.Value v ∷ s) n t i ts w h k = choose_back (frame.Value v) s n t i ts h k (λ x. ends_back i.token i.at (machine.stated v t) ts x)
   give_back (frame.Target ∷ s) n t i ts w h k = choose_back frame.Target s n t i ts h k (λ x. assigns_back i.token i.at s t ts x)
+  give_back (frame.Role f at ∷ s) n t i ts w h k = choose_back (frame.Role f at) s n t i ts h k (λ x. answers_back f at t i ts x)
   give_back (frame.Bracket ∷ s) n t i ts w h k = choose_back frame.Bracket s n t i ts h k (λ x. closes_back i.token i.at s t ts x)
   give_back (frame.Argument m c at ∷ s) n t i ts w h k = choose_back (frame.Argument m c at) s n t i ts h k (λ x. argued_back m c at s t i ts x)
   give_back (frame.Invert at ∷ s) n t i ts w h k = choose_back (frame.Invert at) s n t i ts h k (λ x. give_back s 2 (unary_at at code.Invert t) i ts w.1 w.0 x)
@@ -351,9 +370,27 @@ module _ (r : List Statement) where
   deletes_back at [] k = absurd k
   deletes_back at (j ∷ b) (x, e, (ss, ends, q)) = script_is _ b _ ss (grammar.delete refl e) ends q
 
+  gather_back : (at : Place) (x : List ℕ) (j : Item) (ts : List Item) → IsSign j sign.Assign →
+      Then ts (λ i b. IsKeyword i keyword.Gather × OpensIn (role.Source (word_at at x)) i.at b r) → Script (item (token.Name x) at ∷ j ∷ ts) r
+  gather_back at x j [] a k = absurd k
+  gather_back at x j (i ∷ []) a (word, k) = absurd k
+  gather_back at x j (i ∷ p ∷ b) a (word, (first, (t, [], l, k))) = absurd k
+  gather_back at x j (i ∷ p ∷ b) a (word, (first, (t, o ∷ c, l, (comma, (u, [], m, k))))) = absurd k
+  gather_back at x j (i ∷ p ∷ b) a (word, (first, (t, o ∷ c, l, (comma, (u, z ∷ d, m, (close, (ss, ends, q))))))) =
+      script_is _ d _ ss (grammar.gather refl a word first l comma m close) ends q
+
+  scatter_back : (at : Place) (ts : List Item) → OpensIn role.Target at ts r → Script (item (token.Keyword keyword.Scatter) at ∷ ts) r
+  scatter_back at [] k = absurd k
+  scatter_back at (j ∷ a) (first, (t, [], p, k)) = absurd k
+  scatter_back at (j ∷ a) (first, (t, o ∷ b, p, (comma, (u, [], l, k)))) = absurd k
+  scatter_back at (j ∷ a) (first, (t, o ∷ b, p, (comma, (u, z ∷ c, l, (second, (v, [], m, k)))))) = absurd k
+  scatter_back at (j ∷ a) (first, (t, o ∷ b, p, (comma, (u, z ∷ c, l, (second, (v, w ∷ d, m, (close, (ss, ends, q)))))))) =
+      script_is _ d _ ss (grammar.scatter refl first p comma l second m close) ends q
+
   name_back : (at : Place) (x : List ℕ) (ts : List Item) → Completes (state.Named (word_at at x)) ts r → Script (item (token.Name x) at ∷ ts) r
   name_back at x [] (inl k) = absurd k
-  name_back at x (j ∷ b) (inl (a, (t, d, l, (ss, ends, q)))) = script_is _ d _ ss (grammar.bind refl a l) ends q
+  name_back at x (j ∷ b) (inl (a, inl (t, d, l, (ss, ends, q)))) = script_is _ d _ ss (grammar.bind refl a l) ends q
+  name_back at x (j ∷ b) (inl (a, inr k)) = gather_back at x j b a k
   name_back at x ts (inr (iat, cuts, b, index, (u, [], climb, k))) = absurd k
   name_back at x ts (inr (iat, cuts, b, index, (u, j ∷ c, climb, (a, (w, e, l, (ss, ends, q)))))) =
       script_is _ e _ ss (grammar.assign (grammar.target_name refl index (climb_rest 0 1 _ u b (j ∷ c) refl refl climb)) a l) ends q
@@ -366,6 +403,7 @@ module _ (r : List Statement) where
   starts_back (token.Keyword keyword.Print) at ts (t, b, l, (ss, ends, q)) = script_is _ b _ ss (grammar.print refl l) ends q
   starts_back (token.Keyword keyword.Del) at ts k = deletes_back at ts k
   starts_back (token.Keyword keyword.Flush) at ts (ss, ends, q) = script_is _ ts _ ss (grammar.flush refl) ends q
+  starts_back (token.Keyword keyword.Scatter) at ts k = scatter_back at ts k
   starts_back (token.Keyword (keyword.View v)) at ts k = target_back at v ts k
   starts_back (token.Name x) at ts k = name_back at x ts k
   starts_back token.Line at ts k = grammar.blank (grammar.next refl k)
@@ -376,6 +414,15 @@ module _ (r : List Statement) where
   named_back (token.Sign sign.Assign) at w ts k = inl (refl, k)
   named_back (token.Sign sign.OpenIndex) at w ts (xs, b, list, g) = inr (at, xs, b, grammar.bracketed refl list, g)
   named_back _ at w ts k = absurd k
+
+  -- what is not `gather` begins a value
+  binds_back : (t : Token) (at : Place) (w : Word) (ts : List Item) → Next (machine.binds t at w) ts r → BoundIn w (item t at ∷ ts) r
+  binds_back (token.Keyword keyword.Gather) at w ts k = inr (refl, k)
+  binds_back t at w ts k = inl (begins_value_back at (frame.Value (head.Bind w) ∷ []) r t ts k)
+
+  asks_first_back : (t : Token) (i_at : Place) (f : Role) (at : Place) (ts : List Item) → Next (machine.asks_first t f at) ts r → OpensIn f at (item t i_at ∷ ts) r
+  asks_first_back (token.Sign sign.Open) i_at f at ts k = (refl, k)
+  asks_first_back _ i_at f at ts k = absurd k
 
   delete_back : (t : Token) (at : Place) (ts : List Item) → Next (machine.deletes t at) ts r → Completes state.Delete (item t at ∷ ts) r
   delete_back (token.Name x) at ts (ss, ends, q) = (x, refl, (ss, ends, q))
@@ -394,6 +441,8 @@ module _ (r : List Statement) where
   pub backward : (st : State) (i : Item) (ts : List Item) → WellFormed st → Next (step st i) ts r → Completes st (i ∷ ts) r
   backward state.Start i ts f k = starts_back i.token i.at ts k
   backward (state.Named w) i ts f k = named_back i.token i.at w ts k
+  backward (state.Bound w) i ts f k = binds_back i.token i.at w ts k
+  backward (state.Opens x at) i ts f k = asks_first_back i.token i.at x at ts k
   backward state.Delete i ts f k = delete_back i.token i.at ts k
   backward state.Ended i ts f k = ended_back i.token i.at ts k
   backward (state.Want m s) i ts f k = begins_back i.at s r m i.token ts f.0 k

@@ -19,6 +19,8 @@ use Rattle.arr_syntax.specs.declared.state.Part.{Part}
 use Rattle.arr_syntax.specs.declared.state.Part.TheVariants as part
 use Rattle.arr_syntax.specs.declared.state.Head.{Head}
 use Rattle.arr_syntax.specs.declared.state.Head.TheVariants as head
+use Rattle.arr_syntax.specs.declared.state.Role.{Role}
+use Rattle.arr_syntax.specs.declared.state.Role.TheVariants as role
 use Rattle.arr_syntax.specs.declared.state.Frame.{Frame}
 use Rattle.arr_syntax.specs.declared.state.Frame.TheVariants as frame
 use Rattle.arr_syntax.specs.declared.state.State.{State}
@@ -36,7 +38,7 @@ use Rattle.arr_syntax.specs.Grammar as grammar
 use Rattle.arr_syntax.specs.Grammar.{operator, comparison, cut, literal_at, unary_at, binary_at, Ends, Script, Listed, Length, Stride, Slice}
 use Rattle.arr_syntax.specs.Machine as machine
 use Rattle.arr_syntax.specs.Machine.{level, sign_level, rank, operate, goes, give, leaves, fits, step, again, wanted_by, wanted, fresh, fill, parts_of, level_of, built, take_part, onward, opened, with_cut}
-use Rattle.arr_syntax.proofs.Completes.{Fills, PartIn, ValueIn, NodeIn, Argued, After, Given, Wants, Completes, Formed, Takes, WellFormed, WellMoved}
+use Rattle.arr_syntax.proofs.Completes.{Fills, PartIn, ValueIn, NodeIn, OneMore, Closed, Supplied, Argued, After, Given, Wants, Completes, Formed, Takes, WellFormed, WellMoved}
 use Rattle.arr_syntax.proofs.Filling.{item}
 use Rattle.arr_syntax.proofs.Forward.{operator_within, again_most}
 use Rattle.arr_syntax.proofs.Backward.{stops, climbed}
@@ -84,6 +86,28 @@ assigns_formed : (k : Token) (at : Place) (t : Expr) → WellMoved (machine.assi
 assigns_formed (token.Sign sign.Assign) at t = (omega arith, tt)
 assigns_formed _ at t = tt
 
+takes_role : (f : Role) (at : Place) (s : List Frame) → Takes (machine.mode_of f) (frame.Role f at ∷ s)
+takes_role role.Target at s = refl
+takes_role (role.Source w) at s = omega arith
+takes_role (role.Index w t) at s = omega arith
+takes_role (role.Places t) at s = omega arith
+takes_role (role.Values t x) at s = omega arith
+
+asks_formed : (k : Token) (f : Role) (at : Place) → WellMoved (machine.asks_next k f at)
+asks_formed (token.Sign sign.Comma) f at = (takes_role f at [], tt)
+asks_formed _ f at = tt
+
+finishes_formed : (k : Token) (st : Statement) → WellMoved (machine.finishes k st)
+finishes_formed (token.Sign sign.Close) st = tt
+finishes_formed _ st = tt
+
+answers_formed : (f : Role) (at : Place) (t : Expr) (k : Token) → WellMoved (machine.answers f at t k)
+answers_formed (role.Source w) at t k = asks_formed k (role.Index w t) at
+answers_formed (role.Index w s) at t k = finishes_formed k (grammar.gather_of w at s t)
+answers_formed role.Target at t k = asks_formed k (role.Places t) at
+answers_formed (role.Places s) at t k = asks_formed k (role.Values s t) at
+answers_formed (role.Values s x) at t k = finishes_formed k (grammar.scatter_of at s x t)
+
 closes_formed : (k : Token) (s : List Frame) (t : Expr) → Formed s → WellMoved (machine.closes k s t)
 closes_formed (token.Sign sign.Close) s t w = (omega arith, w)
 closes_formed _ s t w = tt
@@ -118,6 +142,7 @@ give_formed : (s : List Frame) (n : ℕ) (t : Expr) (i : Item) → Formed s → 
 give_formed [] n t i w = tt
 give_formed (frame.Value h ∷ s) n t i w = choose_formed (frame.Value h) s n t i w (ends_formed i.token (machine.stated h t))
 give_formed (frame.Target ∷ s) n t i w = choose_formed frame.Target s n t i w (assigns_formed i.token i.at t)
+give_formed (frame.Role f at ∷ s) n t i w = choose_formed (frame.Role f at) s n t i w (answers_formed f at t i.token)
 give_formed (frame.Bracket ∷ s) n t i w = choose_formed frame.Bracket s n t i w (closes_formed i.token s t w)
 give_formed (frame.Argument m c at ∷ s) n t i w = choose_formed (frame.Argument m c at) s n t i w (argued_formed c at s t i w)
 give_formed (frame.Invert at ∷ s) n t i w = choose_formed (frame.Invert at) s n t i w (give_formed s 2 (unary_at at code.Invert t) i w.1)
@@ -159,6 +184,7 @@ starts_formed : (k : Token) (at : Place) → WellMoved (machine.starts k at)
 starts_formed (token.Keyword keyword.Print) at = (omega arith, tt)
 starts_formed (token.Keyword keyword.Del) at = tt
 starts_formed (token.Keyword keyword.Flush) at = tt
+starts_formed (token.Keyword keyword.Scatter) at = tt
 starts_formed (token.Keyword (keyword.View v)) at = tt
 starts_formed (token.Name x) at = tt
 starts_formed token.Line at = tt
@@ -166,9 +192,17 @@ starts_formed token.End at = tt
 starts_formed _ at = tt
 
 named_formed : (k : Token) (at : Place) (w : Word) → WellMoved (machine.named k at w)
-named_formed (token.Sign sign.Assign) at w = (omega arith, tt)
+named_formed (token.Sign sign.Assign) at w = tt
 named_formed (token.Sign sign.OpenIndex) at w = (omega arith, tt)
 named_formed _ at w = tt
+
+binds_formed : (k : Token) (at : Place) (w : Word) → WellMoved (machine.binds k at w)
+binds_formed (token.Keyword keyword.Gather) at w = tt
+binds_formed k at w = begins_formed mode.Value k at (frame.Value (head.Bind w) ∷ []) (omega arith) tt
+
+asks_first_formed : (k : Token) (f : Role) (at : Place) → WellMoved (machine.asks_first k f at)
+asks_first_formed (token.Sign sign.Open) f at = (takes_role f at [], tt)
+asks_first_formed _ f at = tt
 
 deletes_formed : (k : Token) (at : Place) → WellMoved (machine.deletes k at)
 deletes_formed (token.Name x) at = tt
@@ -182,6 +216,8 @@ ended_formed _ = tt
 pub step_formed : (st : State) (i : Item) → WellFormed st → WellMoved (step st i)
 step_formed state.Start i w = starts_formed i.token i.at
 step_formed (state.Named x) i w = named_formed i.token i.at x
+step_formed (state.Bound x) i w = binds_formed i.token i.at x
+step_formed (state.Opens f at) i w = asks_first_formed i.token f at
 step_formed state.Delete i w = deletes_formed i.token i.at
 step_formed state.Ended i w = ended_formed i.token
 step_formed (state.Want m s) i w = begins_formed m i.token i.at s w.0 w.1
@@ -273,6 +309,22 @@ argued_can B can (callee.First c) at u = let x = node_can B can (node.Pair c u (
 argued_can B can (callee.Second c l) at u = node_can B can (node.Pair c l u) at refl
 argued_can B can (callee.View v) at u = node_can B can (node.View v u) at refl
 
+-- a bracket, and the end
+closed_can : (st : Statement) → Can (Closed st)
+closed_can st = (some_sign sign.Close ∷ some token.End ∷ [], st ∷ [], (refl, ([], grammar.finish refl, refl)))
+
+more_can : (K : Expr → List Item → List Statement → Type 0) → ((t : Expr) → Can (K t)) → Can (λ ts r. OneMore ts (λ t b. K t b r))
+more_can K can = let x = can (literal_at nowhere false 0) in
+    (some_sign sign.Comma ∷ zero_number ∷ x.0, x.1, (refl, (literal_at nowhere false 0, x.0, value_tree 9 x.0 (omega arith), x.2)))
+
+supplied_can : (f : Role) (at : Place) (t : Expr) → Can (Supplied f at t)
+supplied_can (role.Source w) at t = more_can (λ u b r. Closed (grammar.gather_of w at t u) b r) (λ u. closed_can (grammar.gather_of w at t u))
+supplied_can (role.Index w s) at t = closed_can (grammar.gather_of w at s t)
+supplied_can role.Target at t = more_can (λ u b r. OneMore b (λ v c. Closed (grammar.scatter_of at t u v) c r))
+    (λ u. more_can (λ v c r. Closed (grammar.scatter_of at t u v) c r) (λ v. closed_can (grammar.scatter_of at t u v)))
+supplied_can (role.Places s) at t = more_can (λ u b r. Closed (grammar.scatter_of at s t u) b r) (λ u. closed_can (grammar.scatter_of at s t u))
+supplied_can (role.Values s x) at t = closed_can (grammar.scatter_of at s x t)
+
 abbrev Over : List Frame → ℕ → Expr → List Item → List Statement → Type 0
 Over s n t ts r = Given n s t ts r
 
@@ -283,6 +335,7 @@ after_can : (s : List Frame) → Formed s → (t : Expr) → Can (After s t)
 after_can [] w t = absurd w
 after_can (frame.Value h ∷ s) w t = (some token.End ∷ [], machine.stated h t ∷ [], ([], grammar.finish refl, refl))
 after_can (frame.Target ∷ s) w t = let x = value_can (head.Assign t nowhere) in (some_sign sign.Assign ∷ x.0, x.1, (refl, x.2))
+after_can (frame.Role f at ∷ s) w t = supplied_can f at t
 after_can (frame.Bracket ∷ s) w t = let x = given_from s (after_can s w) 0 t (omega arith) in (some_sign sign.Close ∷ x.0, x.1, (refl, x.2))
 after_can (frame.Argument m c at ∷ s) w t = argued_can (Over s) (λ v. given_from s (after_can s w) 0 v (omega arith)) c at t
 after_can (frame.Invert at ∷ s) w t = given_from s (after_can s w.1) 2 (unary_at at code.Invert t) w.0
@@ -296,7 +349,9 @@ wants_can mode.Place s w = let x = after_can s w (grammar.name_of (grammar.word_
 
 pub completable : (st : State) → WellFormed st → Can (Completes st)
 completable state.Start w = (some token.End ∷ [], [], grammar.blank (grammar.finish refl))
-completable (state.Named x) w = let v = value_can (head.Bind x) in (some_sign sign.Assign ∷ v.0, v.1, inl (refl, v.2))
+completable (state.Named x) w = let v = value_can (head.Bind x) in (some_sign sign.Assign ∷ v.0, v.1, inl (refl, inl v.2))
+completable (state.Bound x) w = let v = value_can (head.Bind x) in (v.0, v.1, inl v.2)
+completable (state.Opens f at) w = let v = wants_can (machine.mode_of f) (frame.Role f at ∷ []) tt in (some_sign sign.Open ∷ v.0, v.1, (refl, v.2))
 completable state.Delete w = (some (token.Name []) ∷ some token.End ∷ [], grammar.delete_of (grammar.word_at nowhere []) ∷ [], ([], refl, ([], grammar.finish refl, refl)))
 completable state.Ended w = (some token.End ∷ [], [], grammar.finish refl)
 completable (state.Want m s) w = wants_can m s w.1

@@ -15,6 +15,8 @@ use Rattle.arr_syntax.specs.declared.state.Part.{Part}
 use Rattle.arr_syntax.specs.declared.state.Part.TheVariants as part
 use Rattle.arr_syntax.specs.declared.state.Head.{Head}
 use Rattle.arr_syntax.specs.declared.state.Head.TheVariants as head
+use Rattle.arr_syntax.specs.declared.state.Role.{Role}
+use Rattle.arr_syntax.specs.declared.state.Role.TheVariants as role
 use Rattle.arr_syntax.specs.declared.state.Frame.{Frame}
 use Rattle.arr_syntax.specs.declared.state.Frame.TheVariants as frame
 use Rattle.arr_syntax.specs.declared.state.State.{State}
@@ -26,10 +28,11 @@ use Rattle.arr_syntax.specs.declared.state.Filled.TheVariants as filled
 use Rattle.arr_syntax.specs.declared.tree.Code16.TheVariants as code
 use Rattle.arr_syntax.specs.declared.tree.Type4.{Type4}
 use Rattle.arr_syntax.specs.declared.tree.Cut.{Cut}
+use Rattle.arr_syntax.specs.declared.tree.Word.{Word}
 use Rattle.arr_syntax.specs.declared.tree.Expr.{Expr}
 use Rattle.arr_syntax.specs.declared.tree.Statement.{Statement}
-use Rattle.arr_syntax.specs.Grammar.{IsSign, IsKeyword, IsName, IsNumber, Literal, Listed, Length, Stride, Bound, Step, Slice, Shape, Strides, Index, Level, Placed, Rest, Script, Ends, unary_at, binary_at, index_at, name_of, word_at, delete_of}
-use Rattle.arr_syntax.specs.Machine.{fresh, with_cut, parts_of, built, level_of, wanted, stated, again}
+use Rattle.arr_syntax.specs.Grammar.{IsSign, IsKeyword, IsName, IsNumber, Literal, Listed, Length, Stride, Bound, Step, Slice, Shape, Strides, Index, Level, Placed, Rest, Script, Ends, unary_at, binary_at, index_at, name_of, word_at, delete_of, gather_of, scatter_of}
+use Rattle.arr_syntax.specs.Machine.{fresh, with_cut, parts_of, built, level_of, wanted, stated, again, mode_of}
 
 -- a token comes next of which this holds, with the tokens after it
 abbrev pub Then : List Item → (Item → List Item → Type 0) → Type 0
@@ -109,8 +112,27 @@ pub data Climb : ℕ → ℕ → Expr → List Item → Expr → List Item → T
 abbrev pub Goes : (Expr → List Item → Type 0) → ℕ → ℕ → Expr → List Item → Type 0
 Goes A n m t ts = (u : Expr) × (b : List Item) × Climb n m t ts u b × A u b
 
+-- the statement is over, and the rest of the script follows
+abbrev pub Over : Statement → List Item → List Statement → Type 0
+Over st b r = (ss : List Statement) × Ends b ss × (r ≡ st ∷ ss)
+
 abbrev pub ValueIn : Head → List Item → List Statement → Type 0
-ValueIn h ts r = (t : Expr) × (b : List Item) × Level 9 ts t b × ((ss : List Statement) × Ends b ss × (r ≡ stated h t ∷ ss))
+ValueIn h ts r = (t : Expr) × (b : List Item) × Level 9 ts t b × Over (stated h t) b r
+
+abbrev pub Closed : Statement → List Item → List Statement → Type 0
+Closed st ts r = Then ts (λ i b. IsSign i sign.Close × Over st b r)
+
+-- one more value behind a comma
+abbrev pub OneMore : List Item → (Expr → List Item → Type 0) → Type 0
+OneMore ts K = Then ts (λ i b. IsSign i sign.Comma × ((t : Expr) × (c : List Item) × Level 9 b t c × K t c))
+
+-- an argument of a gather or scatter is there, and the others follow
+abbrev pub Supplied : Role → Place → Expr → List Item → List Statement → Type 0
+Supplied (role.Source name) at t ts r = OneMore ts (λ u b. Closed (gather_of name at t u) b r)
+Supplied (role.Index name source) at t ts r = Closed (gather_of name at source t) ts r
+Supplied role.Target at t ts r = OneMore ts (λ u b. OneMore b (λ v c. Closed (scatter_of at t u v) c r))
+Supplied (role.Places target) at t ts r = OneMore ts (λ u b. Closed (scatter_of at target t u) b r)
+Supplied (role.Values target index) at t ts r = Closed (scatter_of at target index t) ts r
 
 abbrev pub NodeIn : Node → Place → List Item → (ℕ → Expr → List Item → Type 0) → Type 0
 NodeIn n at ts back = Fills (parts_of n) (fresh at) ts (λ g b. back (level_of n) (built n at g) b)
@@ -125,8 +147,9 @@ Argued (callee.View v) at u b back = NodeIn (node.View v u) at b back
 
 -- the frame has this tree, and the rest of the script follows
 abbrev pub Leaves : Frame → Expr → List Item → List Statement → (ℕ → Expr → List Item → Type 0) → Type 0
-Leaves (frame.Value h) u b r back = (ss : List Statement) × Ends b ss × (r ≡ stated h u ∷ ss)
+Leaves (frame.Value h) u b r back = Over (stated h u) b r
 Leaves frame.Target u b r back = Then b (λ i c. IsSign i sign.Assign × ValueIn (head.Assign u i.at) c r)
+Leaves (frame.Role f at) u b r back = Supplied f at u b r
 Leaves frame.Bracket u b r back = Then b (λ i c. IsSign i sign.Close × back 0 u c)
 Leaves (frame.Argument m c at) u b r back = Argued c at u b back
 Leaves (frame.Invert at) u b r back = back 2 (unary_at at code.Invert u) b
@@ -147,12 +170,22 @@ Tree mode.Place n = Placed
 abbrev pub Wants : Mode → List Frame → List Item → List Statement → Type 0
 Wants m s ts r = (t : Expr) × (b : List Item) × Tree m (wanted s) ts t b × After s t b r
 
+-- the bracket of a gather or scatter, and its arguments
+abbrev pub OpensIn : Role → Place → List Item → List Statement → Type 0
+OpensIn f at ts r = Then ts (λ i b. IsSign i sign.Open × Wants (mode_of f) (frame.Role f at ∷ []) b r)
+
+-- what a name is bound to
+abbrev pub BoundIn : Word → List Item → List Statement → Type 0
+BoundIn w ts r = ValueIn (head.Bind w) ts r ⊎ Then ts (λ i b. IsKeyword i keyword.Gather × OpensIn (role.Source w) i.at b r)
+
 abbrev pub Completes : State → List Item → List Statement → Type 0
 Completes state.Start ts r = Script ts r
 Completes (state.Named w) ts r =
-    Then ts (λ i b. IsSign i sign.Assign × ValueIn (head.Bind w) b r)
+    Then ts (λ i b. IsSign i sign.Assign × BoundIn w b r)
     ⊎ ((at : Place) × (cuts : List Cut) × (b : List Item) × Index ts at cuts b × Given 0 (frame.Target ∷ []) (index_at at (name_of w) cuts) b r)
-Completes state.Delete ts r = Then ts (λ i b. (x : List ℕ) × IsName i x × ((ss : List Statement) × Ends b ss × (r ≡ delete_of (word_at i.at x) ∷ ss)))
+Completes (state.Bound w) ts r = BoundIn w ts r
+Completes (state.Opens f at) ts r = OpensIn f at ts r
+Completes state.Delete ts r = Then ts (λ i b. (x : List ℕ) × IsName i x × Over (delete_of (word_at i.at x)) b r)
 Completes state.Ended ts r = Ends ts r
 Completes (state.Want m s) ts r = Wants m s ts r
 Completes (state.Call m c at s) ts r = Then ts (λ i b. IsSign i sign.Open × Wants m (frame.Argument m c at ∷ s) b r)
@@ -176,6 +209,7 @@ abbrev pub Formed : List Frame → Type 0
 Formed [] = ⊥
 Formed (frame.Value h ∷ s) = Unit {0}
 Formed (frame.Target ∷ s) = Unit {0}
+Formed (frame.Role f at ∷ s) = Unit {0}
 Formed (frame.Bracket ∷ s) = Formed s
 Formed (frame.Argument m c at ∷ s) = Formed s
 Formed (frame.Invert at ∷ s) = (2 ≤ wanted s) × Formed s

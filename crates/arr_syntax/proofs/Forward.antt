@@ -4,6 +4,7 @@ use Rattle.std.proofs.lemmas.Bool.Decides.{nat_tests}
 use Rattle.arr_syntax.specs.declared.refusal.Place.{Place}
 use Rattle.arr_syntax.specs.declared.token.Item.{Item}
 use Rattle.arr_syntax.specs.declared.token.Token.{Token}
+use Rattle.arr_syntax.specs.declared.token.Token.TheVariants as token
 use Rattle.arr_syntax.specs.declared.token.Sign.{Sign}
 use Rattle.arr_syntax.specs.declared.token.Sign.TheVariants as sign
 use Rattle.arr_syntax.specs.declared.token.Keyword.TheVariants as keyword
@@ -18,6 +19,9 @@ use Rattle.arr_syntax.specs.declared.state.Node.TheVariants as node
 use Rattle.arr_syntax.specs.declared.state.Fields.{Fields}
 use Rattle.arr_syntax.specs.declared.state.Part.{Part}
 use Rattle.arr_syntax.specs.declared.state.Part.TheVariants as part
+use Rattle.arr_syntax.specs.declared.state.Head.TheVariants as head
+use Rattle.arr_syntax.specs.declared.state.Role.{Role}
+use Rattle.arr_syntax.specs.declared.state.Role.TheVariants as role
 use Rattle.arr_syntax.specs.declared.state.Frame.{Frame}
 use Rattle.arr_syntax.specs.declared.state.Frame.TheVariants as frame
 use Rattle.arr_syntax.specs.declared.state.State.{State}
@@ -34,7 +38,7 @@ use Rattle.arr_syntax.specs.Grammar as grammar
 use Rattle.arr_syntax.specs.Grammar.{IsSign, IsKeyword, Rest, Level, Primary, Placed, ViewCall, Argument, Ends, Script, OneStatement, operator, comparison, index_at, name_of, word_at, unary_at, binary_at}
 use Rattle.arr_syntax.specs.Machine as machine
 use Rattle.arr_syntax.specs.Machine.{level, sign_level, rank, operate, goes, give, leaves, fits, step, again, wanted_by, wanted, fresh, fill, parts_of, level_of, built, take_part, onward, opened}
-use Rattle.arr_syntax.proofs.Completes.{Fills, NextPart, Climb, there, up, Goes, Argued, After, Given, Tree, Wants, Completes, Next, Formed, Takes, WellFormed}
+use Rattle.arr_syntax.proofs.Completes.{Fills, NextPart, Climb, there, up, Goes, Closed, OneMore, Supplied, Argued, After, Given, Tree, Wants, Completes, Next, Formed, Takes, WellFormed}
 use Rattle.arr_syntax.proofs.Filling.{fill_on}
 
 pub cond_no : {A : Type 0} (b : Bool) (x y : A) → b ≡ false → cond b x y ≡ y
@@ -206,6 +210,10 @@ module _ (s : List Frame) (i : Item) (r : List Statement) where
             (_, _, level_as q right, (u, b, climb_from q (climb_to e c), g)));
       })
 
+mode_most : (m : Mode) → machine.mode_level m ≤ 9
+mode_most mode.Value = omega arith
+mode_most mode.Place = omega arith
+
 -- a token that would go on at a lower level is nothing to a frame that has its tree
 module _ (i : Item) (r : List Statement) where
   argued_level : (c : Callee) (at : Place) (u : Expr) (ts : List Item) (back : ℕ → Expr → List Item → Type 0) → Argued c at u (i ∷ ts) back → level i.token ≡ 9
@@ -219,11 +227,26 @@ module _ (i : Item) (r : List Statement) where
   argued_level (callee.View Reshape) at u ts back (e, k) = ap level e
   argued_level (callee.View Strided) at u ts back (e, k) = ap level e
 
+  -- a bracket or a comma follows an argument of a gather or scatter
+  closed_level : (st : Statement) (ts : List Item) → Closed st (i ∷ ts) r → level i.token ≡ 9
+  closed_level st ts (e, k) = ap level e
+
+  more_level : (ts : List Item) (K : Expr → List Item → Type 0) → OneMore (i ∷ ts) K → level i.token ≡ 9
+  more_level ts K (e, k) = ap level e
+
+  supplied_level : (f : Role) (at : Place) (u : Expr) (ts : List Item) → Supplied f at u (i ∷ ts) r → level i.token ≡ 9
+  supplied_level (role.Source w) at u ts k = more_level ts _ k
+  supplied_level (role.Index w t) at u ts k = closed_level _ ts k
+  supplied_level role.Target at u ts k = more_level ts _ k
+  supplied_level (role.Places t) at u ts k = more_level ts _ k
+  supplied_level (role.Values t x) at u ts k = closed_level _ ts k
+
   quiet : (s : List Frame) (t : Expr) (ts : List Item) → Formed s → level i.token < wanted s → After s t (i ∷ ts) r → ⊥
   quiet [] t ts f l g = g
   quiet (frame.Value h ∷ s) t ts f l (ss, grammar.finish e, q) = let p : level i.token ≡ 9 = ap level e in omega arith
   quiet (frame.Value h ∷ s) t ts f l (ss, grammar.next e k, q) = let p : level i.token ≡ 9 = ap level e in omega arith
   quiet (frame.Target ∷ s) t ts f l (e, k) = let p : level i.token ≡ 9 = ap level e in omega arith
+  quiet (frame.Role x at ∷ s) t ts f l k = let p = supplied_level x at t ts k in let h = mode_most (machine.mode_of x) in omega (arith, p, h)
   quiet (frame.Bracket ∷ s) t ts f l (e, k) = let p : level i.token ≡ 9 = ap level e in omega arith
   quiet (frame.Argument mode.Value c at ∷ s) t ts f l k = let p = argued_level c at t ts _ k in omega (arith, p)
   quiet (frame.Argument mode.Place c at ∷ s) t ts f l k = let p = argued_level c at t ts _ k in omega (arith, p)
@@ -250,6 +273,16 @@ module _ (i : Item) (r : List Statement) where
   argued_on (callee.View Reshape) at s t ts k = take_on (node.View Reshape t) at part.Comma (part.Shape ∷ part.Close ∷ []) (fresh at) s i ts r k
   argued_on (callee.View Strided) at s t ts k = take_on (node.View Strided t) at part.Comma (part.Number ∷ part.Comma ∷ part.Shape ∷ part.Comma ∷ part.Strides ∷ part.Close ∷ []) (fresh at) s i ts r k
 
+  finishes_on : (st : Statement) (ts : List Item) → Closed st (i ∷ ts) r → Next (machine.finishes i.token st) ts r
+  finishes_on st ts (e, k) = rw e k
+
+  answers_on : (f : Role) (at : Place) (u : Expr) (ts : List Item) → Supplied f at u (i ∷ ts) r → Next (machine.answers f at u i.token) ts r
+  answers_on (role.Source w) at u ts (e, k) = rw e k
+  answers_on (role.Index w t) at u ts k = finishes_on _ ts k
+  answers_on role.Target at u ts (e, k) = rw e k
+  answers_on (role.Places t) at u ts (e, k) = rw e k
+  answers_on (role.Values t x) at u ts k = finishes_on _ ts k
+
   pub ends_on : (st : Statement) (ts : List Item) (ss : List Statement) → Ends (i ∷ ts) ss → r ≡ st ∷ ss → Next (machine.ends i.token st) ts r
   ends_on st ts ss (grammar.finish e) q = rw e ([], (tt, refl), q)
   ends_on st ts ss (grammar.next e k) q = rw e (ss, k, q)
@@ -267,6 +300,7 @@ module _ (i : Item) (r : List Statement) where
   give_on [] n t ts f (u, b, c, g) = absurd g
   give_on (frame.Value h ∷ s) n t ts w g = choose (frame.Value h) s n t ts w g (λ (ss, k, q). ends_on (machine.stated h t) ts ss k q)
   give_on (frame.Target ∷ s) n t ts w g = choose frame.Target s n t ts w g (λ (e, k). rw e k)
+  give_on (frame.Role f at ∷ s) n t ts w g = choose (frame.Role f at) s n t ts w g (λ k. answers_on f at t ts k)
   give_on (frame.Bracket ∷ s) n t ts w g = choose frame.Bracket s n t ts w g (λ (e, k). rw e k)
   give_on (frame.Argument m c at ∷ s) n t ts w g = choose (frame.Argument m c at) s n t ts w g (λ k. argued_on c at s t ts k)
   give_on (frame.Invert at ∷ s) n t ts w g = choose (frame.Invert at) s n t ts w g (λ k. give_on s 2 (unary_at at code.Invert t) ts w.1 k)
@@ -319,7 +353,11 @@ module _ (i : Item) (r : List Statement) where
   starts_on ts ss (grammar.statement (grammar.print e l) ends) q = rw e (_, _, l, (_, ends, q))
   starts_on ts ss (grammar.statement (grammar.delete e n) ends) q = rw e (_, n, (_, ends, q))
   starts_on ts ss (grammar.statement (grammar.flush e) ends) q = rw e (_, ends, q)
-  starts_on ts ss (grammar.statement (grammar.bind e a l) ends) q = rw e (inl (a, (_, _, l, (_, ends, q))))
+  starts_on ts ss (grammar.statement (grammar.bind e a l) ends) q = rw e (inl (a, inl (_, _, l, (_, ends, q))))
+  starts_on ts ss (grammar.statement (grammar.gather e a word o l comma m close) ends) q =
+      rw e (inl (a, inr (word, (o, (_, _, l, (comma, (_, _, m, (close, (_, ends, q)))))))))
+  starts_on ts ss (grammar.statement (grammar.scatter e o p comma l second m close) ends) q =
+      rw e (o, (_, _, p, (comma, (_, _, l, (second, (_, _, m, (close, (_, ends, q))))))))
   starts_on ts ss (grammar.statement (grammar.assign (grammar.target_name e index rest) a l) ends) q =
       rw e (inr (_, _, _, index, (_, _, up rest there, (a, (_, _, l, (_, ends, q))))))
   starts_on ts ss (grammar.statement (grammar.assign (grammar.target_view v rest) a l) ends) q =
@@ -329,6 +367,18 @@ module _ (i : Item) (r : List Statement) where
   named_on w ts (inl (e, k)) = rw e k
   named_on w ts (inr (at, cuts, b, grammar.bracketed e l, g)) = rw e (cuts, b, l, g)
 
+  -- no value begins with `gather`
+  binds_value : (k : Token) (w : Word) (ts : List Item) → Next (machine.begins_value k i.at (frame.Value (head.Bind w) ∷ [])) ts r → Next (machine.binds k i.at w) ts r
+  binds_value (token.Keyword keyword.Gather) w ts k = absurd k
+  binds_value _ w ts k = k
+
+  binds_on : (w : Word) (ts : List Item) → Completes (state.Bound w) (i ∷ ts) r → Next (machine.binds i.token i.at w) ts r
+  binds_on w ts (inl (t, b, l, k)) = binds_value i.token w ts (enter (frame.Value (head.Bind w) ∷ []) 9 9 t t ts b b l there refl k)
+  binds_on w ts (inr (e, k)) = rw e k
+
+  asks_on : (f : Role) (at : Place) (ts : List Item) → Completes (state.Opens f at) (i ∷ ts) r → Next (machine.asks_first i.token f at) ts r
+  asks_on f at ts (e, k) = rw e k
+
   ended_on : (ts : List Item) (ss : List Statement) → Ends (i ∷ ts) ss → r ≡ ss → Next (machine.ended i.token) ts r
   ended_on ts ss (grammar.finish e) q = rw e (tt, q)
   ended_on ts ss (grammar.next e k) q = rw (e, q) k
@@ -336,6 +386,8 @@ module _ (i : Item) (r : List Statement) where
   pub forward : (st : State) (ts : List Item) → WellFormed st → Completes st (i ∷ ts) r → Next (step st i) ts r
   forward state.Start ts f k = starts_on ts r k refl
   forward (state.Named w) ts f k = named_on w ts k
+  forward (state.Bound w) ts f k = binds_on w ts k
+  forward (state.Opens x at) ts f k = asks_on x at ts k
   forward state.Delete ts f (x, e, (ss, ends, q)) = rw e (ss, ends, q)
   forward state.Ended ts f k = ended_on ts r k refl
   forward (state.Want m s) ts f k = begins_on m s ts f.0 k

@@ -13,6 +13,8 @@ use Rattle.arr_syntax.specs.declared.state.Node.TheVariants as node
 use Rattle.arr_syntax.specs.declared.state.Fields.{Fields}
 use Rattle.arr_syntax.specs.declared.state.Part.{Part}
 use Rattle.arr_syntax.specs.declared.state.Part.TheVariants as part
+use Rattle.arr_syntax.specs.declared.state.Role.{Role}
+use Rattle.arr_syntax.specs.declared.state.Role.TheVariants as role
 use Rattle.arr_syntax.specs.declared.state.Frame.{Frame}
 use Rattle.arr_syntax.specs.declared.state.Frame.TheVariants as frame
 use Rattle.arr_syntax.specs.declared.state.State.{State}
@@ -98,6 +100,13 @@ argued_end (callee.First c) at s t i e = rw e tt
 argued_end (callee.Second c l) at s t i e = take_end (node.Pair c l t) at (machine.parts_of (node.Pair c l t)) (fresh at) s i e
 argued_end (callee.View v) at s t i e = take_end (node.View v t) at (machine.parts_of (node.View v t)) (fresh at) s i e
 
+answers_end : (f : Role) (at : Place) (t : Expr) (i : Item) → i.token ≡ token.End → Last (machine.answers f at t i.token)
+answers_end (role.Source w) at t i e = rw e tt
+answers_end (role.Index w s) at t i e = rw e tt
+answers_end role.Target at t i e = rw e tt
+answers_end (role.Places s) at t i e = rw e tt
+answers_end (role.Values s x) at t i e = rw e tt
+
 give_last : (f : Frame) (s : List Frame) (n : ℕ) (t : Expr) (i : Item) → i.token ≡ token.End → Last (leaves f s t i (λ m u. give s m u i)) → Last (give (f ∷ s) n t i)
 give_last f s n t i e k = cond_last (fits n i.token f) (goes i.token i.at (f ∷ s) t) (leaves f s t i (λ m u. give s m u i)) (rw e tt) k
 
@@ -105,6 +114,7 @@ give_end : (s : List Frame) (n : ℕ) (t : Expr) (i : Item) → i.token ≡ toke
 give_end [] n t i e = tt
 give_end (frame.Value h ∷ s) n t i e = give_last (frame.Value h) s n t i e (rw e refl)
 give_end (frame.Target ∷ s) n t i e = give_last frame.Target s n t i e (rw e tt)
+give_end (frame.Role f at ∷ s) n t i e = give_last (frame.Role f at) s n t i e (answers_end f at t i e)
 give_end (frame.Bracket ∷ s) n t i e = give_last frame.Bracket s n t i e (rw e tt)
 give_end (frame.Argument m c at ∷ s) n t i e = give_last (frame.Argument m c at) s n t i e (argued_end c at s t i e)
 give_end (frame.Invert at ∷ s) n t i e = give_last (frame.Invert at) s n t i e (give_end s 2 (unary_at at code.Invert t) i e)
@@ -117,6 +127,8 @@ begins_end mode.Place at s = tt
 pub step_end : (st : State) (i : Item) → i.token ≡ token.End → Last (step st i)
 step_end state.Start i e = rw e refl
 step_end (state.Named w) i e = rw e tt
+step_end (state.Bound w) i e = rw e tt
+step_end (state.Opens f at) i e = rw e tt
 step_end state.Delete i e = rw e tt
 step_end state.Ended i e = rw e refl
 step_end (state.Want m s) i e = rw e (begins_end m i.at s)

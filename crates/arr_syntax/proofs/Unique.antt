@@ -10,6 +10,8 @@ use Rattle.arr_syntax.specs.declared.state.Callee.TheVariants as callee
 use Rattle.arr_syntax.specs.declared.state.Fields.{Fields}
 use Rattle.arr_syntax.specs.declared.state.Part.{Part}
 use Rattle.arr_syntax.specs.declared.state.Part.TheVariants as part
+use Rattle.arr_syntax.specs.declared.state.Role.{Role}
+use Rattle.arr_syntax.specs.declared.state.Role.TheVariants as role
 use Rattle.arr_syntax.specs.declared.state.Frame.{Frame}
 use Rattle.arr_syntax.specs.declared.state.Frame.TheVariants as frame
 use Rattle.arr_syntax.specs.declared.state.State.{State}
@@ -28,7 +30,7 @@ use Rattle.arr_syntax.specs.Grammar as grammar
 use Rattle.arr_syntax.specs.Grammar.{Listed, Length, Stride, Slice, Ends, Level, Placed, Primary, ViewCall, Rest, Script, OneStatement, unary_at, binary_at}
 use Rattle.arr_syntax.specs.Machine.{step}
 use Rattle.arr_syntax.specs.Refused.{Fits, rank, IsRefused, IsScript, IfRefused}
-use Rattle.arr_syntax.proofs.Completes.{PartIn, Fills, Climb, there, up, Argued, After, Given, Wants, Completes, Next, WellFormed, WellMoved}
+use Rattle.arr_syntax.proofs.Completes.{PartIn, Fills, Climb, there, up, Supplied, Argued, After, Given, Wants, Completes, Next, WellFormed, WellMoved}
 use Rattle.arr_syntax.proofs.Forward.{forward}
 use Rattle.arr_syntax.proofs.Completable.{step_formed}
 
@@ -85,10 +87,18 @@ argued_over (callee.View Transpose) at u back k = k
 argued_over (callee.View Reshape) at u back k = k
 argued_over (callee.View Strided) at u back k = k
 
+supplied_over : (f : Role) (at : Place) (t : Expr) (r : List Statement) → Supplied f at t [] r → ⊥
+supplied_over (role.Source w) at t r k = k
+supplied_over (role.Index w s) at t r k = k
+supplied_over role.Target at t r k = k
+supplied_over (role.Places s) at t r k = k
+supplied_over (role.Values s x) at t r k = k
+
 after_over : (s : List Frame) (t : Expr) (r : List Statement) → After s t [] r → ⊥
 after_over [] t r k = k
 after_over (frame.Value h ∷ s) t r (ss, ends, q) = elim ends [ ]
 after_over (frame.Target ∷ s) t r k = k
+after_over (frame.Role f at ∷ s) t r k = supplied_over f at t r k
 after_over (frame.Bracket ∷ s) t r k = k
 after_over (frame.Argument m c at ∷ s) t r k = argued_over c at t _ k
 after_over (frame.Invert at ∷ s) t r (u, b, c, g) = after_over s u r (subst (λ (v : List Item). After s u v r) (climb_over _ _ _ u b c) g)
@@ -126,6 +136,9 @@ over : (st : State) (r q : List Statement) → Completes st [] r → Completes s
 over state.Start r q h c = absurd (script_over r h)
 over (state.Named w) r q (inl h) c = absurd h
 over (state.Named w) r q (inr (at, cuts, b, index, g)) c = elim index [ ]
+over (state.Bound w) r q (inl (t, b, l, k)) c = absurd (level_over _ t b l)
+over (state.Bound w) r q (inr h) c = absurd h
+over (state.Opens f at) r q h c = absurd h
 over state.Delete r q h c = absurd h
 over state.Ended r q h c = elim h [ ]
 over (state.Want m s) r q h c = absurd (wants_over m s r h)

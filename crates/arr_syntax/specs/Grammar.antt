@@ -91,6 +91,12 @@ bind_of name value = record { form = form.Bind name value }
 abbrev pub assign_of : Expr → Place → Expr → Statement
 assign_of target equals value = record { form = form.Assign target equals value }
 
+abbrev pub gather_of : Word → Place → Expr → Expr → Statement
+gather_of name at source index = record { form = form.Gather name at source index }
+
+abbrev pub scatter_of : Place → Expr → Expr → Expr → Statement
+scatter_of at target index values = record { form = form.Scatter at target index values }
+
 -- the level and the code of each binary sign that groups to the left
 abbrev pub operator : Sign → Option (ℕ × Code16)
 operator sign.Star = Some (2, code.Multiply)
@@ -273,6 +279,12 @@ pub data OneStatement : List Item → Statement → List Item → Type 0 where
   bind : {i j : Item} {x : List ℕ} {t : Expr} {a c : List Item} →
       IsName i x → IsSign j sign.Assign → Level 9 a t c → OneStatement (i ∷ j ∷ a) (bind_of (word_at i.at x) t) c
   assign : {i : Item} {t u : Expr} {a b c : List Item} → Target a t (i ∷ b) → IsSign i sign.Assign → Level 9 b u c → OneStatement a (assign_of t i.at u) c
+  gather : {i j k l o p : Item} {x : List ℕ} {t u : Expr} {a b c : List Item} →
+      IsName i x → IsSign j sign.Assign → IsKeyword k keyword.Gather → IsSign l sign.Open → Level 9 a t (o ∷ b) → IsSign o sign.Comma →
+      Level 9 b u (p ∷ c) → IsSign p sign.Close → OneStatement (i ∷ j ∷ k ∷ l ∷ a) (gather_of (word_at i.at x) k.at t u) c
+  scatter : {i j k l o : Item} {t u v : Expr} {a b c d : List Item} →
+      IsKeyword i keyword.Scatter → IsSign j sign.Open → Placed a t (k ∷ b) → IsSign k sign.Comma → Level 9 b u (l ∷ c) → IsSign l sign.Comma →
+      Level 9 c v (o ∷ d) → IsSign o sign.Close → OneStatement (i ∷ j ∷ a) (scatter_of i.at t u v) d
 
 mutual
   pub data Script : List Item → List Statement → Type 0 where

@@ -20,6 +20,8 @@ use Rattle.arr_syntax.specs.declared.state.Part.{Part}
 use Rattle.arr_syntax.specs.declared.state.Part.TheVariants as part
 use Rattle.arr_syntax.specs.declared.state.Head.{Head}
 use Rattle.arr_syntax.specs.declared.state.Head.TheVariants as head
+use Rattle.arr_syntax.specs.declared.state.Role.{Role}
+use Rattle.arr_syntax.specs.declared.state.Role.TheVariants as role
 use Rattle.arr_syntax.specs.declared.state.Frame.{Frame}
 use Rattle.arr_syntax.specs.declared.state.Frame.TheVariants as frame
 use Rattle.arr_syntax.specs.declared.state.State.{State}
@@ -35,7 +37,7 @@ use Rattle.arr_syntax.specs.declared.tree.Cut.{Cut}
 use Rattle.arr_syntax.specs.declared.tree.Word.{Word}
 use Rattle.arr_syntax.specs.declared.tree.Expr.{Expr}
 use Rattle.arr_syntax.specs.declared.tree.Statement.{Statement}
-use Rattle.arr_syntax.specs.Grammar.{literal_at, word_at, name_of, unary_at, binary_at, power_at, fold_at, cast_at, range_at, lengths_at, steps_at, full_at, index_at, broadcast_at, transpose_at, reshape_at, strided_at, print_of, delete_of, flush_of, bind_of, assign_of, operator, comparison, cut}
+use Rattle.arr_syntax.specs.Grammar.{literal_at, word_at, name_of, unary_at, binary_at, power_at, fold_at, cast_at, range_at, lengths_at, steps_at, full_at, index_at, broadcast_at, transpose_at, reshape_at, strided_at, print_of, delete_of, flush_of, bind_of, assign_of, gather_of, scatter_of, operator, comparison, cut}
 
 -- the fields of a node
 
@@ -203,12 +205,21 @@ level_of _ = 0
 
 -- the stack: the level of the tree that is wanted, and the next state
 
+-- the target of a scatter is a place, the other arguments are values
+abbrev pub mode_of : Role → Mode
+mode_of role.Target = mode.Place
+mode_of _ = mode.Value
+
+abbrev pub mode_level : Mode → ℕ
+mode_level mode.Value = 9
+mode_level mode.Place = 1
+
 abbrev pub wanted_by : Frame → ℕ
 wanted_by (frame.Value h) = 9
 wanted_by frame.Target = 1
+wanted_by (frame.Role f at) = mode_level (mode_of f)
 wanted_by frame.Bracket = 9
-wanted_by (frame.Argument mode.Value callee at) = 9
-wanted_by (frame.Argument mode.Place callee at) = 1
+wanted_by (frame.Argument m callee at) = mode_level m
 wanted_by (frame.Invert at) = 2
 wanted_by (frame.Operand level c at left) = level
 
@@ -284,6 +295,26 @@ abbrev pub assigns : Token → Place → Expr → Move
 assigns (token.Sign sign.Assign) at t = move.On (value_of (head.Assign t at))
 assigns _ at t = move.Stuck
 
+-- an argument of a gather or scatter is wanted
+abbrev pub asks : Role → Place → State
+asks f at = state.Want (mode_of f) (frame.Role f at ∷ [])
+
+abbrev pub asks_next : Token → Role → Place → Move
+asks_next (token.Sign sign.Comma) f at = move.On (asks f at)
+asks_next _ f at = move.Stuck
+
+abbrev pub finishes : Token → Statement → Move
+finishes (token.Sign sign.Close) s = move.Emit s state.Ended
+finishes _ s = move.Stuck
+
+-- an argument of a gather or scatter is there
+abbrev pub answers : Role → Place → Expr → Token → Move
+answers (role.Source name) at t k = asks_next k (role.Index name t) at
+answers (role.Index name source) at t k = finishes k (gather_of name at source t)
+answers role.Target at t k = asks_next k (role.Places t) at
+answers (role.Places target) at t k = asks_next k (role.Values target t) at
+answers (role.Values target index) at t k = finishes k (scatter_of at target index t)
+
 abbrev pub closes : Token → List Frame → Expr → Move
 closes (token.Sign sign.Close) s t = move.On (state.Have 0 t s)
 closes _ s t = move.Stuck
@@ -308,6 +339,7 @@ again n = if eqb n 8 then 9 else n
 abbrev pub leaves : Frame → List Frame → Expr → Item → (ℕ → Expr → Move) → Move
 leaves (frame.Value h) s t i back = ends i.token (stated h t)
 leaves frame.Target s t i back = assigns i.token i.at t
+leaves (frame.Role f at) s t i back = answers f at t i.token
 leaves frame.Bracket s t i back = closes i.token s t
 leaves (frame.Argument m c at) s t i back = argued c at s t i
 leaves (frame.Invert at) s t i back = back 2 (unary_at at code.Invert t)
@@ -357,6 +389,7 @@ abbrev pub starts : Token → Place → Move
 starts (token.Keyword keyword.Print) at = move.On (value_of head.Print)
 starts (token.Keyword keyword.Del) at = move.On state.Delete
 starts (token.Keyword keyword.Flush) at = move.Emit flush_of state.Ended
+starts (token.Keyword keyword.Scatter) at = move.On (state.Opens role.Target at)
 starts (token.Keyword (keyword.View v)) at = move.On (state.Call mode.Place (callee.View v) at (frame.Target ∷ []))
 starts (token.Name x) at = move.On (state.Named (word_at at x))
 starts token.Line at = move.On state.Start
@@ -364,9 +397,17 @@ starts token.End at = move.On state.Finished
 starts _ at = move.Stuck
 
 abbrev pub named : Token → Place → Word → Move
-named (token.Sign sign.Assign) at w = move.On (value_of (head.Bind w))
+named (token.Sign sign.Assign) at w = move.On (state.Bound w)
 named (token.Sign sign.OpenIndex) at w = move.On (opened (node.Index (name_of w)) at (frame.Target ∷ []))
 named _ at w = move.Stuck
+
+abbrev pub binds : Token → Place → Word → Move
+binds (token.Keyword keyword.Gather) at w = move.On (state.Opens (role.Source w) at)
+binds t at w = begins_value t at (frame.Value (head.Bind w) ∷ [])
+
+abbrev pub asks_first : Token → Role → Place → Move
+asks_first (token.Sign sign.Open) f at = move.On (asks f at)
+asks_first _ f at = move.Stuck
 
 abbrev pub deletes : Token → Place → Move
 deletes (token.Name x) at = move.Emit (delete_of (word_at at x)) state.Ended
@@ -381,6 +422,8 @@ ended _ = move.Stuck
 abbrev pub step : State → Item → Move
 step state.Start i = starts i.token i.at
 step (state.Named w) i = named i.token i.at w
+step (state.Bound w) i = binds i.token i.at w
+step (state.Opens f at) i = asks_first i.token f at
 step state.Delete i = deletes i.token i.at
 step state.Ended i = ended i.token
 step (state.Want m s) i = begins m i.token i.at s

@@ -48,7 +48,7 @@ abbrev pub word : List ℕ → List ℕ
 word bs = take_while is_word_byte bs
 
 abbrev pub statement_words : List (List ℕ × Keyword)
-statement_words = (codes "print", keyword.Print) ∷ (codes "del", keyword.Del) ∷ (codes "flush", keyword.Flush) ∷ (codes "gather", keyword.Unused) ∷ (codes "scatter", keyword.Unused) ∷ []
+statement_words = (codes "print", keyword.Print) ∷ (codes "del", keyword.Del) ∷ (codes "flush", keyword.Flush) ∷ (codes "gather", keyword.Gather) ∷ (codes "scatter", keyword.Scatter) ∷ []
 
 abbrev pub call_words : List (List ℕ × Keyword)
 call_words =

@@ -115,6 +115,31 @@ pub enum Head {
     Assign { target: Boxed<Expr>, equals: Place },
 }
 
+/// What an argument of `gather` or `scatter` is, with those before it.
+#[derive(Drop)]
+pub enum Role {
+    /// The first argument of `name = gather(source, index)`.
+    Source {
+        name: Word,
+    },
+    /// The second one.
+    Index {
+        name: Word,
+        source: Boxed<Expr>,
+    },
+    /// The first argument of `scatter(target, index, values)`.
+    Target,
+    /// The second one.
+    Places {
+        target: Boxed<Expr>,
+    },
+    /// The third one.
+    Values {
+        target: Boxed<Expr>,
+        index: Boxed<Expr>,
+    },
+}
+
 /// What is open around the tree that is being read.
 #[derive(Drop)]
 pub enum Frame {
@@ -122,6 +147,11 @@ pub enum Frame {
     Value(Head),
     /// The target of a statement.
     Target,
+    /// An argument of the word at this place.
+    Role {
+        role: Role,
+        at: Place,
+    },
     Bracket,
     Argument {
         mode: Mode,
@@ -149,6 +179,15 @@ pub enum State {
     /// Behind a name at the beginning of a statement.
     Named {
         name: Word,
+    },
+    /// Behind the `=` after that name.
+    Bound {
+        name: Word,
+    },
+    /// Behind `gather` or `scatter`, at this place.
+    Opens {
+        role: Role,
+        at: Place,
     },
     /// Behind `del`.
     Delete,

@@ -1,12 +1,12 @@
 ghost use Rattle.std.specs.Prelude.{◌≡◌, List, [], ◌∷◌, IfOk, ◌<◌, ◌≤◌};
 ghost use Rattle.arr_syntax.specs.Grammar.{operator, comparison, name_of, word_at};
-ghost use Rattle.arr_syntax.specs.Machine.{resume, onward, take_part, opened, first_part, sign_level, level, again, wanted_by, operand, sign_goes, goes, stated, ends, value_of, assigns, closes, seconds, argued, give, begins_value, begins_place, begins, calls, starts, named, deletes, ended, step};
+ghost use Rattle.arr_syntax.specs.Machine.{resume, onward, take_part, opened, first_part, sign_level, level, again, mode_of, mode_level, wanted_by, asks, asks_next, finishes, answers, asks_first, binds, operand, sign_goes, goes, stated, ends, value_of, assigns, closes, seconds, argued, give, begins_value, begins_place, begins, calls, starts, named, deletes, ended, step};
 
 use crate::node::{binary, literal, tree, unary};
 use crate::parts::Parts;
 use crate::refusal::Place;
 use crate::stack::Stack;
-use crate::state::{Callee, Fields, Filled, Frame, Head, Mode, Move, Node, State};
+use crate::state::{Callee, Fields, Filled, Frame, Head, Mode, Move, Node, Role, State};
 use crate::token::{Item, Keyword, Sign, Token};
 use crate::tree::{Code16, Expr, ExprForm, Form, Statement, Word};
 use sqlite_items::Boxed;
@@ -164,6 +164,30 @@ fn again(level: u8) -> u8
     if level == 8 { 9 } else { level }
 }
 
+impl Role {
+    /// Whether it is a value or a place.
+    fn mode(&self) -> Mode
+        ensures { result ≡ mode_of self.now }
+    {
+        match self {
+            Role::Target => Mode::Place,
+            _ => Mode::Value,
+        }
+    }
+}
+
+impl Mode {
+    /// The level of a whole tree.
+    fn level(self) -> u8
+        ensures { result ≡ mode_level self }
+    {
+        match self {
+            Mode::Value => 9,
+            Mode::Place => 1,
+        }
+    }
+}
+
 impl Frame {
     /// The level of the tree that is wanted.
     fn wanted(&self) -> u8
@@ -172,10 +196,8 @@ impl Frame {
         match self {
             Frame::Value(_) | Frame::Bracket => 9,
             Frame::Target => 1,
-            Frame::Argument { mode, .. } => match *mode {
-                Mode::Value => 9,
-                Mode::Place => 1,
-            },
+            Frame::Role { role, .. } => role.mode().level(),
+            Frame::Argument { mode, .. } => mode.level(),
             Frame::Invert { .. } => 2,
             Frame::Operand { level, .. } => *level,
         }
@@ -304,6 +326,73 @@ fn assigns(alloc: Global, token: Token, at: Place, target: Boxed<Expr>) -> Resul
     }
 }
 
+/// An argument of `gather` or `scatter` is wanted.
+fn asks(alloc: Global, role: Role, at: Place) -> Result<Move, AllocError>
+    ensures { IfOk result (λ m. m ≡ Move.On (asks role at)) }
+{
+    let mode = role.mode();
+    want(mode, Frame::Role { role, at }, Stack::new(alloc))
+}
+
+/// The next argument is wanted behind the comma.
+fn asks_next(alloc: Global, token: Token, role: Role, at: Place) -> Result<Move, AllocError>
+    ensures { IfOk result (λ m. m ≡ asks_next token role at) }
+{
+    match token {
+        Token::Sign(Sign::Comma) => asks(alloc, role, at),
+        _ => Ok(Move::Stuck),
+    }
+}
+
+/// The bracket behind the last argument.
+fn finishes(token: Token, statement: Boxed<Statement>) -> Move
+    ensures { result ≡ finishes token statement }
+{
+    match token {
+        Token::Sign(Sign::Close) => Move::Emit(statement, State::Ended),
+        _ => Move::Stuck,
+    }
+}
+
+/// A token behind an argument of `gather` or `scatter`.
+fn answers(
+    alloc: Global,
+    role: Role,
+    at: Place,
+    tree: Boxed<Expr>,
+    token: Token,
+) -> Result<Move, AllocError>
+    ensures { IfOk result (λ m. m ≡ answers role at tree token) }
+{
+    let next = match role {
+        Role::Source { name } => Role::Index { name, source: tree },
+        Role::Target => Role::Places { target: tree },
+        Role::Places { target } => Role::Values {
+            target,
+            index: tree,
+        },
+        Role::Index { name, source } => {
+            let form = Form::Gather {
+                name,
+                at,
+                source: source.into_inner(),
+                index: tree.into_inner(),
+            };
+            return Ok(finishes(token, statement(alloc, form)?));
+        }
+        Role::Values { target, index } => {
+            let form = Form::Scatter {
+                at,
+                target: target.into_inner(),
+                index: index.into_inner(),
+                values: tree.into_inner(),
+            };
+            return Ok(finishes(token, statement(alloc, form)?));
+        }
+    };
+    asks_next(alloc, token, next, at)
+}
+
 fn closes(token: Token, stack: Stack, tree: Boxed<Expr>) -> Move
     ensures { result ≡ closes token stack tree }
 {
@@ -396,6 +485,7 @@ fn give(
                 return Ok(ends(item.token, statement));
             }
             Frame::Target => return assigns(alloc, item.token, item.at, tree),
+            Frame::Role { role, at } => return answers(alloc, role, at, tree, item.token),
             Frame::Bracket => return Ok(closes(item.token, stack, tree)),
             Frame::Argument { callee, at, .. } => {
                 return argued(alloc, callee, at, stack, tree, item);
@@ -559,6 +649,10 @@ fn starts(alloc: Global, token: Token, at: Place) -> Result<Move, AllocError>
             let statement = statement(alloc, Form::Flush)?;
             Ok(Move::Emit(statement, State::Ended))
         }
+        Token::Keyword(Keyword::Scatter) => Ok(Move::On(State::Opens {
+            role: Role::Target,
+            at,
+        })),
         Token::Keyword(Keyword::View(view)) => {
             let stack = target(alloc)?;
             Ok(call(Mode::Place, Callee::View(view), at, stack))
@@ -577,15 +671,39 @@ fn named(alloc: Global, token: Token, at: Place, name: Word) -> Result<Move, All
     ensures { IfOk result (λ m. m ≡ named token at name) }
 {
     match token {
-        Token::Sign(Sign::Assign) => {
-            let next = value_of(alloc, Head::Bind { name })?;
-            Ok(Move::On(next))
-        }
+        Token::Sign(Sign::Assign) => Ok(Move::On(State::Bound { name })),
         Token::Sign(Sign::OpenIndex) => {
             let stack = target(alloc)?;
             let of = name_of(alloc, name)?;
             opens(alloc, Node::Index { of }, at, stack)
         }
+        _ => Ok(Move::Stuck),
+    }
+}
+
+/// The token behind the `=` of a binding.
+fn binds(alloc: Global, token: Token, at: Place, name: Word) -> Result<Move, AllocError>
+    ensures { IfOk result (λ m. m ≡ binds token at name) }
+{
+    match token {
+        Token::Keyword(Keyword::Gather) => Ok(Move::On(State::Opens {
+            role: Role::Source { name },
+            at,
+        })),
+        _ => {
+            let mut stack = Stack::new(alloc);
+            stack.push(Frame::Value(Head::Bind { name }))?;
+            begins_value(alloc, token, at, stack)
+        }
+    }
+}
+
+/// The bracket behind `gather` or `scatter`.
+fn asks_first(alloc: Global, token: Token, role: Role, at: Place) -> Result<Move, AllocError>
+    ensures { IfOk result (λ m. m ≡ asks_first token role at) }
+{
+    match token {
+        Token::Sign(Sign::Open) => asks(alloc, role, at),
         _ => Ok(Move::Stuck),
     }
 }
@@ -620,6 +738,8 @@ pub fn step(alloc: Global, state: State, item: Item) -> Result<Move, AllocError>
     match state {
         State::Start => starts(alloc, item.token, item.at),
         State::Named { name } => named(alloc, item.token, item.at, name),
+        State::Bound { name } => binds(alloc, item.token, item.at, name),
+        State::Opens { role, at } => asks_first(alloc, item.token, role, at),
         State::Delete => deletes(alloc, item.token, item.at),
         State::Ended => Ok(ended(item.token)),
         State::Want { mode, stack } => begins(alloc, mode, item.token, item.at, stack),

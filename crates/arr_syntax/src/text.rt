@@ -76,9 +76,9 @@ fn statement_word(word: &[u8]) -> Option<Keyword>
     } else if word == b"flush".as_slice() {
         Some(Keyword::Flush)
     } else if word == b"gather".as_slice() {
-        Some(Keyword::Unused)
+        Some(Keyword::Gather)
     } else if word == b"scatter".as_slice() {
-        Some(Keyword::Unused)
+        Some(Keyword::Scatter)
     } else {
         None
     }

@@ -56,8 +56,8 @@ pub enum Keyword {
     Pair(Code16),
     View(View),
     Type(Type4),
-    /// `gather` and `scatter`, which have no use
-    Unused,
+    Gather,
+    Scatter,
 }
 
 #[derive(Drop)]

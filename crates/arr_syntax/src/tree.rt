@@ -34,6 +34,20 @@ pub enum Form {
         equals: Place,
         value: Expr,
     },
+    /// `name = gather(source, index)`, with the place of the word `gather`
+    Gather {
+        name: Word,
+        at: Place,
+        source: Expr,
+        index: Expr,
+    },
+    /// `scatter(target, index, values)`, with the place of the word `scatter`; the target is a name or a view call, and any indices
+    Scatter {
+        at: Place,
+        target: Expr,
+        index: Expr,
+        values: Expr,
+    },
 }
 
 /// A name, and the place of its first byte.

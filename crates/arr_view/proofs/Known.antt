@@ -42,7 +42,7 @@ fronts (a ∷ us) (b ∷ vs) cs ds l e =
 fronts [] (b ∷ vs) cs ds l e = absurd (omega arith)
 fronts (a ∷ us) [] cs ds l e = absurd (omega arith)
 
-is_zero-true : (s : ℤ) → is_zero s ≡ true → s ≡ pos 0
+pub is_zero-true : (s : ℤ) → is_zero s ≡ true → s ≡ pos 0
 is_zero-true (pos zero) e = refl
 is_zero-true (pos (suc n)) e = absurd (false≢true e)
 is_zero-true (negsuc n) e = absurd (false≢true e)
@@ -81,7 +81,7 @@ to_place-same (pos m) (pos n) p q e = ap pos e
 to_place-same (negsuc m) y p q e = absurd (false≢true p)
 to_place-same (pos m) (negsuc n) p q e = absurd (false≢true q)
 
-same_places : (xs ys : List ℤ) → list_all is_place xs ≡ true → list_all is_place ys ≡ true → map to_place xs ≡ map to_place ys → xs ≡ ys
+pub same_places : (xs ys : List ℤ) → list_all is_place xs ≡ true → list_all is_place ys ≡ true → map to_place xs ≡ map to_place ys → xs ≡ ys
 same_places [] [] p q e = refl
 same_places (x ∷ xs) (y ∷ ys) p q e =
     let a = and_parts (is_place x) _ p in

@@ -1,28 +1,29 @@
-use Rattle.std.proofs.Common.{◌≡◌, ◌∙◌, sym, ap, ap₂}
-use Rattle.arr_sets.specs.Bits.{meets}
+use Rattle.std.proofs.Common.{◌≡◌, ◌∙◌, Some, None, true, get_or, ap, length, sym, arith}
 use Rattle.arr_view.specs.Strided.{Strided}
-use Rattle.arr_view.specs.Views.{overlap}
+use Rattle.arr_view.specs.Views.{is_view, overlap}
 use Rattle.arr_overlap.specs.Classes.{view_at}
-use Rattle.arr_overlap.proofs.ClassesMeet.{as_long, marks_decide, marks_there, view_there}
-use Rattle.arr_overlap.proofs.Apart.{undecided_base}
+use Rattle.arr_overlap.proofs.Apart.{meets_itself}
+use Rattle.arr_overlap.proofs.ClassesMeet.{any_default, marks_decide, view_there}
 use Rattle.arr_overlap.proofs.classes.met.Goals as goal
 
-pub meets-requires : goal.meets-requires
-meets-requires c =
-    as_long c.args.views.now c.args.marks.now _ c.args.at c.args.other c.index-marks-at.result c.index-marks-other.result
-    c.requires.marked c.requires.at c.requires.other c.index-marks-at.is c.index-marks-other.is
+pub returns-then-at-other-clause-value : goal.returns-then-at-other-clause-value
+returns-then-at-other-clause-value c =
+    let views = c.args.views.now in
+    let law : is_view (view_at views c.args.at) ≡ true = (c.requires.outlined.each c.args.at c.requires.at (record { start = 0; least = 0; greatest = 0; step = 0; row = 0; column = 0; width = 0 })).lawful in
+    sym (ap (λ k. overlap (view_at views c.args.at) (view_at views k)) (sym c.if-at-other.true) ∙ meets_itself (view_at views c.args.at) law)
 
-pub returns-in-Some : goal.returns-in-Some
-returns-in-Some c =
-    let here : view_at c.args.views.now c.args.at ≡ c.index-views-at.result = view_there c.args.views.now c.args.at c.index-views-at.result c.requires.at c.index-views-at.is in
-    let there : view_at c.args.views.now c.args.other ≡ c.index-views-other.result = view_there c.args.views.now c.args.other c.index-views-other.result c.requires.other c.index-views-other.is in
-    c.in-Some.ensures.value ∙ sym (ap₂ overlap here there)
-
-pub returns : goal.returns
-returns c =
-    let here : view_at c.args.views.now c.args.at ≡ c.index-views-at.result = view_there c.args.views.now c.args.at c.index-views-at.result c.requires.at c.index-views-at.is in
-    let there : view_at c.args.views.now c.args.other ≡ c.index-views-other.result = view_there c.args.views.now c.args.other c.index-views-other.result c.requires.other c.index-views-other.is in
-    sym (marks_decide c.args.views.now c.args.marks.now _ c.args.at c.args.other c.meets.result c.requires.marked c.requires.at c.requires.other
-    (ap (λ (v : Strided). v.base) here ∙ undecided_base c.index-views-at.result c.index-views-other.result c.decided.result c.decided.ensures.bases c.in_default.is ∙ sym (ap (λ (v : Strided). v.base) there))
-    (c.meets.ensures ∙ ap₂ meets (marks_there c.args.views.now c.args.marks.now _ c.args.at c.index-marks-at.result c.requires.marked c.requires.at c.index-marks-at.is)
-    (marks_there c.args.views.now c.args.marks.now _ c.args.other c.index-marks-other.result c.requires.marked c.requires.other c.index-marks-other.is)))
+pub returns-in-Some-Some-clause-value : goal.returns-in-Some-Some-clause-value
+returns-in-Some-Some-clause-value c =
+    let views = c.args.views.now in
+    let marks = c.mark-2.new.marks.items in
+    let law : is_view (view_at views c.args.at) ≡ true = (c.requires.outlined.each c.args.at c.requires.at (record { start = 0; least = 0; greatest = 0; step = 0; row = 0; column = 0; width = 0 })).lawful in
+    let here : view_at views c.args.at ≡ c.index-views-at.result = view_there views c.args.at c.index-views-at.result c.requires.at c.index-views-at.is in
+    let there : view_at views c.args.other ≡ c.index-views-other.result = view_there views c.args.other c.index-views-other.result c.requires.other c.index-views-other.is in
+    let same : (view_at views c.args.at).base ≡ (view_at views c.args.other).base =
+    ap (λ (v : Strided). v.base) here ∙ sym c.base.ensures.value ∙ c.if-base.false ∙ c.base-2.ensures.value ∙ sym (ap (λ (v : Strided). v.base) there) in
+    let long : length marks ≡ length views = c.in_ok-mark-2.ensures.marked.long in
+    let row : get_or marks c.args.at None ≡ Some c.in-Some-Some.here =
+    any_default marks c.args.at None c.index.result.now (let l = c.requires.at in omega arith) ∙ sym c.index.ensures ∙ c.in-Some-Some.is-0 in
+    let other : get_or marks c.args.other None ≡ Some c.in-Some-Some.there =
+    any_default marks c.args.other None c.index-2.result.now (let l = c.requires.other in omega arith) ∙ sym c.index-2.ensures ∙ c.in-Some-Some.is-1 in
+    c.meets.ensures ∙ marks_decide views marks c.args.at c.args.other c.in-Some-Some.here c.in-Some-Some.there c.in_ok-mark-2.ensures.marked c.requires.at c.requires.other law same row other

@@ -1,27 +1,25 @@
-use Rattle.std.proofs.Common.{◌∙◌, ◌<◌, sym, arith, subst, rules, ◌++◌, ◌∷◌, []}
-use Rattle.arr_overlap.specs.Marks.{Marks, most}
-use Rattle.arr_overlap.proofs.Marking.{at_end, below, marks_more, marks_none, next_one, one_more}
+use Rattle.std.proofs.Common.{◌≡◌, ◌-◌, ◌≤◌, ℤ, pos, length, get_or, w32, ap, ap₂, sym, ◌∙◌, arith, rules}
+use Rattle.std.proofs.lemmas.Int.{ints}
+use mir.Val.{SFits}
+use Rattle.arr_view.specs.Strided.{Strided}
+use Rattle.arr_view.proofs.Checks.{lawful, same_rank}
+use Rattle.arr_overlap.proofs.Runs.{some_rank}
 use Rattle.arr_overlap.proofs.meeting.marked.Goals as goal
 
-pub loop-element-init : goal.loop-element-init
-loop-element-init c = record {
-  whole = sym c.new-element-items.ensures ∙ sym c.into_iter-element-iterator.ensures.into_iter_gives;
-  marks = marks_none c.in_ok-bits.bits c.in_ok-bits.ensures;
-}
-
-pub insert-requires : goal.insert-requires
-insert-requires c =
-    let inside : c.in-Some.element < most = below c.args.view.now _ _ c.in-Some.element c.requires (next_one _ _ _ _ _ c.loop-element.invariant.whole c.in-Some.ensures.steps) in
-    let long = c.loop-element.invariant.marks.long in
+pub bounds-strides-last : goal.bounds-strides-last
+bounds-strides-last c =
+    let v : Strided = c.args.view.now in
+    let same : length v.strides ≡ length v.lengths = same_rank v c.shape.ensures.lawful in
+    let some : 1 ≤ length v.lengths = some_rank v.lengths (lawful v c.shape.ensures.lawful).rank in
+    let a : length c.shape.result.now ≡ length v.lengths = ap length c.shape.ensures.value in
+    let b : length c.strides.result.now ≡ length v.strides = ap length c.strides.ensures.value in
     omega arith
 
-pub loop-element-preserved : goal.loop-element-preserved
-loop-element-preserved c =
-    let inside : c.in-Some.element < most = below c.args.view.now _ _ c.in-Some.element c.requires (next_one _ _ _ _ _ c.loop-element.invariant.whole c.in-Some.ensures.steps) in
-    record {
-      whole = one_more _ _ _ _ _ c.loop-element.invariant.whole c.in-Some.ensures.steps;
-      marks = subst (λ b. Marks b (c.loop-element.yielded ++ c.in-Some.element ∷ [])) (sym c.insert.ensures) (marks_more c.loop-element.bits c.loop-element.yielded c.in-Some.element c.loop-element.invariant.marks inside);
-    }
-
-pub returns : goal.returns
-returns c = subst (Marks c.loop-element.bits) (sym (at_end _ _ _ c.loop-element.invariant.whole (search rules))) c.loop-element.invariant.marks
+pub marked_in_runs-requires-clause-stride : goal.marked_in_runs-requires-clause-stride
+marked_in_runs-requires-clause-stride c =
+    let v : Strided = c.args.view.now in
+    let s : ℤ = get_or c.strides.result.now (length c.shape.result.now - 1) (pos 0) in
+    let fits : SFits w32 s = search rules in
+    let one : s ≡ pos 1 = omega (arith, ints) in
+    let long : length v.strides ≡ length c.shape.result.now = same_rank v c.shape.ensures.lawful ∙ sym (ap length c.shape.ensures.value) in
+    ap₂ (λ ss n. get_or ss (n - 1) (pos 0)) (sym c.strides.ensures.value) long ∙ one

@@ -1,6 +1,5 @@
 use Rattle.std.proofs.Common.{◌≡◌, ◌∙◌, ◌<◌, ap, sym, arith, rules, refl, true, false}
-use Rattle.arr_view.specs.Views.{elements, has, share}
-use Rattle.arr_overlap.specs.Marks.{most}
+use Rattle.arr_view.specs.Views.{elements, has, share, most_elements}
 use Rattle.arr_overlap.proofs.Marking.{at_end, below, meet_on, next_one, one_more, shared, unshared}
 use Rattle.arr_overlap.proofs.Apart.{undecided_base}
 use Rattle.arr_overlap.proofs.meeting.overlaps.Goals as goal
@@ -13,13 +12,13 @@ loop-element-init c = record {
 
 pub has-requires : goal.has-requires
 has-requires c =
-    let inside : c.in-Some-element.element < most = below c.args.a.now _ _ c.in-Some-element.element c.decided.ensures.lawful.0 (next_one _ _ _ _ _ c.loop-element.invariant.whole c.in-Some-element.ensures.steps) in
+    let inside : c.in-Some-element.element < most_elements = below c.args.a.now _ _ c.in-Some-element.element c.decided.ensures.lawful.0 (next_one _ _ _ _ _ c.loop-element.invariant.whole c.in-Some-element.ensures.steps) in
     let long = c.in_ok-bits.ensures.long in
     omega arith
 
 pub returns-then-has : goal.returns-then-has
 returns-then-has c =
-    let inside : c.in-Some-element.element < most = below c.args.a.now _ _ c.in-Some-element.element c.decided.ensures.lawful.0 (next_one _ _ _ _ _ c.loop-element.invariant.whole c.in-Some-element.ensures.steps) in
+    let inside : c.in-Some-element.element < most_elements = below c.args.a.now _ _ c.in-Some-element.element c.decided.ensures.lawful.0 (next_one _ _ _ _ _ c.loop-element.invariant.whole c.in-Some-element.ensures.steps) in
     let common : has (elements c.args.b.now) c.in-Some-element.element ≡ true = sym (c.in_ok-bits.ensures.each c.in-Some-element.element inside) ∙ sym c.has.ensures ∙ c.if-has.true in
     sym (meet_on c.args.a.now c.args.b.now true (undecided_base c.args.a.now c.args.b.now c.decided.result c.decided.ensures.bases c.in_default.is)
     (ap (λ es. share es (elements c.args.b.now)) (next_one _ _ _ _ _ c.loop-element.invariant.whole c.in-Some-element.ensures.steps)
@@ -27,7 +26,7 @@ returns-then-has c =
 
 pub loop-element-preserved : goal.loop-element-preserved
 loop-element-preserved c =
-    let inside : c.in-Some-element.element < most = below c.args.a.now _ _ c.in-Some-element.element c.decided.ensures.lawful.0 (next_one _ _ _ _ _ c.loop-element.invariant.whole c.in-Some-element.ensures.steps) in
+    let inside : c.in-Some-element.element < most_elements = below c.args.a.now _ _ c.in-Some-element.element c.decided.ensures.lawful.0 (next_one _ _ _ _ _ c.loop-element.invariant.whole c.in-Some-element.ensures.steps) in
     record {
       whole = one_more _ _ _ _ _ c.loop-element.invariant.whole c.in-Some-element.ensures.steps;
       none = unshared c.loop-element.yielded (elements c.args.b.now) c.in-Some-element.element c.loop-element.invariant.none

@@ -10,12 +10,12 @@ use Rattle.arr_rewrite.proofs.applied.rewrite.Goals as goal
 
 pub applications-smaller : goal.applications-smaller
 applications-smaller c =
-    let found = subst (Searched (next_rewrite c.applications.list.items) c.rewrite_once.new.list.items) c.in-Some.is c.in_ok-place.ensures.next in
+    let found = subst (Searched (next_rewrite c.applications.list.items) None c.rewrite_once.new.list.items) c.in-Some.is c.in_ok-place.ensures.next in
     next_falls c.applications.list.items c.rewrite_once.new.list.items c.applications.invariant.formed found.0
 
 pub applications-preserved : goal.applications-preserved
 applications-preserved c =
-    let found = subst (Searched (next_rewrite c.applications.list.items) c.rewrite_once.new.list.items) c.in-Some.is c.in_ok-place.ensures.next in
+    let found = subst (Searched (next_rewrite c.applications.list.items) None c.rewrite_once.new.list.items) c.in-Some.is c.in_ok-place.ensures.next in
     record {
       formed = next_formed c.applications.list.items c.rewrite_once.new.list.items c.applications.invariant.formed found.0;
       few = found.1;
@@ -24,7 +24,7 @@ applications-preserved c =
     }
 
 -- where no application is left, the list is the normal form
-last : (ops list new : List Op) (o : Option ℕ) → ((n : ℕ) → o ≡ Some n → ⊥) → normal_form list ≡ normal_form ops → Searched (next_rewrite list) new o → (o ≡ None → new ≡ list) → normal_form ops ≡ new
+last : (ops list new : List Op) (o : Option ℕ) → ((n : ℕ) → o ≡ Some n → ⊥) → normal_form list ≡ normal_form ops → Searched (next_rewrite list) None new o → (o ≡ None → new ≡ list) → normal_form ops ≡ new
 last ops list new None f same none kept = sym same ∙ normal_here list none ∙ sym (kept refl)
 last ops list new (Some n) f same none kept = absurd (f n refl)
 

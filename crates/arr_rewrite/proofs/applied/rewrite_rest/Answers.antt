@@ -28,7 +28,7 @@ returns-then-remove_copy-clause-next c =
     let same = c.in_ok-replace.ensures.kept c.if-branch.false ∙ c.loop-place.invariant.same in
     let second = at_item (Goes p (cond c.remove_copy.result (Some next) None)) list c.replace.new.list.items p k same c.remove_copy.ensures.left in (
       sym c.loop-place.invariant.left
-          ∙ rest_place list p k None (Some next) (unused (take p list) k.item (drop (p + 1) list) k.item.out) (first ∙ ap (λ b. cond b (Some c.replace.new.list.items) None) c.if-branch.false) (second ∙ ap (λ b. cond b (Some next) None) c.if-remove_copy.true) refl,
+          ∙ rest_place list p k None (Some next) (unused (take p list) k.item (drop (p + 1) list) k.item.out) (first ∙ ap (λ b. cond b (Some c.replace.new.list.items) None) c.if-branch.false) (second ∙ ap (λ b. cond b (Some next) None) c.if-remove_copy.true) (refl {a = unused (take p list) k.item (drop (p + 1) list) k.item.out}),
       omega arith,
       tt,
     )
@@ -46,8 +46,8 @@ returns-then-remove_unused-clause-next c =
       sym c.loop-place.invariant.left
           ∙ rest_place list p k None None (Some next) (first ∙ ap (λ b. cond b (Some c.replace.new.list.items) None) c.if-branch.false)
           (second ∙ ap (λ b. cond b (Some c.remove_copy.new.list.items) None) c.if-remove_copy.false) (third ∙ ap (λ b. cond b (Some next) None) c.if-remove_unused.true),
-      omega arith,
-      tt,
+      c.remove_unused.ensures.long,
+      c.remove_unused.ensures.settled (subst (SettledTo p) (sym (c.remove_copy.ensures.kept c.if-remove_copy.false ∙ same)) c.loop-place.invariant.settled),
     )
 
 pub loop-place-preserved : goal.loop-place-preserved

@@ -1,10 +1,9 @@
-use Rattle.std.proofs.Common.{◌≡◌, ◌∙◌, ◌+◌, sym, ap, ap₂, arith, pos}
+use Rattle.std.proofs.Common.{◌∙◌, ◌+◌, arith, pos}
 use Rattle.std.proofs.Math.ListN.{length-set}
 use Rattle.arr_num.specs.Numbers.{value}
-use Rattle.arr_num.specs.declared.code.Code.TheVariants.{Power, Identity, Range}
-use Rattle.arr_native.specs.Entries.{entry}
-use Rattle.arr_native.proofs.Entries.{entry_is, entry_more}
-use Rattle.arr_vector.proofs.Values.{converted_value, range_value}
+use Rattle.arr_num.specs.declared.code.Code.TheVariants.{Range}
+use Rattle.arr_native.proofs.Entries.{entry_more}
+use Rattle.arr_vector.proofs.Values.{range_value}
 use Rattle.arr_vector.proofs.element_wise.count_up.Goals as goal
 
 pub loop-i-preserved : goal.loop-i-preserved

@@ -1,4 +1,4 @@
-use Rattle.std.proofs.Common.{◌≡◌, ℕ, ◌<◌, ◌+◌, length, pos}
+use Rattle.std.proofs.Common.{◌≡◌, ℕ, ◌<◌, length, pos}
 use Rattle.arr_num.specs.Numbers.{value}
 use Rattle.arr_num.specs.declared.code.Code.TheVariants.{Power}
 use Rattle.arr_native.specs.Entries.{entry}

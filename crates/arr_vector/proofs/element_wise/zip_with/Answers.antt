@@ -1,10 +1,8 @@
-use Rattle.std.proofs.Common.{◌≡◌, ◌∙◌, ◌+◌, sym, ap, ap₂, arith, pos}
+use Rattle.std.proofs.Common.{◌≡◌, ◌∙◌, sym, ap₂, arith}
 use Rattle.std.proofs.Math.ListN.{length-set}
 use Rattle.arr_num.specs.Numbers.{value}
-use Rattle.arr_num.specs.declared.code.Code.TheVariants.{Power, Identity, Range}
 use Rattle.arr_native.specs.Entries.{entry}
 use Rattle.arr_native.proofs.Entries.{entry_is, entry_more}
-use Rattle.arr_vector.proofs.Values.{converted_value, range_value}
 use Rattle.arr_vector.proofs.element_wise.zip_with.Goals as goal
 
 pub loop-i-preserved : goal.loop-i-preserved

@@ -1,8 +1,19 @@
-use Rattle.std.proofs.Common.{arith, ◌≡◌, ◌∙◌, ap}
+use Rattle.std.proofs.Common.{arith, ◌≡◌, ◌≤◌, ◌<◌, ◌^◌, ◌∙◌, ap, length}
 use Rattle.std.specs.Option.{option_flatten}
-use Rattle.arr_elab.specs.State.{with_name}
-use Rattle.arr_elab.proofs.Named.{inserted, bound_then, shown, one}
+use Rattle.std.proofs.lemmas.List.{length-map}
+use Rattle.std.proofs.lemmas.List.Sums.{count_by-le-length}
+use Rattle.std.specs.List.{count_by}
+use Rattle.arr_elab.specs.State.{with_name, is_bound}
+use Rattle.arr_elab.proofs.Named.{inserted, bound_then, shown, one, one_most}
 use Rattle.arr_elab.proofs.names.Names.set.Goals as goal
+
+pub overflow_add-self : goal.overflow_add-self
+overflow_add-self c =
+    let few : count_by is_bound (shown c.self.inside.arrays.entries) ≤ length (shown c.self.inside.arrays.entries) = count_by-le-length is_bound (shown c.self.inside.arrays.entries) in
+    let long : length (shown c.self.inside.arrays.entries) ≡ length c.self.inside.arrays.entries = length-map c.self.inside.arrays.entries _ in
+    let short : length c.self.inside.arrays.entries < 2 ^ 63 = omega (arith, c.len-most.ensures.len, c.len-most.ensures.small) in
+    let once : c.one_if-now.result ≤ 1 = omega (arith, one_most c.args.array, c.one_if-now.ensures) in
+    omega (arith, few, long, short, once, c.self.invariant)
 
 pub overflow_sub-self : goal.overflow_sub-self
 overflow_sub-self c =

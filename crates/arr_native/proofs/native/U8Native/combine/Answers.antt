@@ -1,4 +1,4 @@
-use Rattle.std.proofs.Common.{◌≡◌, pos, ap₂, ◌∙◌}
+use Rattle.std.proofs.Common.{pos}
 use Rattle.arr_num.specs.Numbers.{value}
 use Rattle.arr_num.specs.declared.elem.Elem.TheVariants.{U8}
 use Rattle.arr_native.proofs.Casts.{typed, cast_byte, back_byte}

@@ -1,6 +1,6 @@
 use Rattle.std.proofs.Common.{◌≡◌, ◌<◌, length}
 use Rattle.std.specs.List.{AllByRecursion}
-use Rattle.arr_record.specs.Flushes.{free_each}
+use Rattle.arr_record.specs.Parts.{free_each}
 use Rattle.arr_record.specs.Ledger.{with_types}
 use Rattle.arr_record.proofs.owners.Owners.free_loose.Given as goal
 

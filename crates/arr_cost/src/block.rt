@@ -1,0 +1,88 @@
+//! The views that the operations of a block read and write outside it.
+ghost use Rattle.std.specs.Prelude.{◌≡◌, ◌++◌, IfOk, not};
+ghost use Rattle.std.specs.List.{filter};
+ghost use Rattle.std.specs.Option.{option_to_list};
+ghost use Rattle.arr_ops.specs.Costs.{all_reads, all_writes};
+ghost use Rattle.arr_ops.specs.Ops.{creates, freed_by, inputs, makes_base, outputs, view_of};
+
+use crate::NoMemory;
+use arr_ops::{Op, Operand};
+use arr_view::View;
+use std::alloc::Global;
+
+/// Whether an operation creates a base.
+fn makes_base(op: &Op, base: u32) -> bool
+    ensures { result ≡ makes_base op.now base }
+{
+    op.makes
+        && match &op.out {
+            Some(view) => view.base() == base,
+            None => false,
+        }
+}
+
+/// Whether some operation of a block creates a base.
+fn creates(block: &[Op], base: u32) -> bool
+    ensures { result ≡ creates block.now base }
+{
+    block.iter().any(|op| makes_base(op, base))
+}
+
+/// Whether some operation of a block frees a base.
+fn frees(block: &[Op], base: u32) -> bool
+    ensures { result ≡ freed_by block.now base }
+{
+    block.iter().any(|op| op.frees == Some(base))
+}
+
+/// Takes up an operand that is a view of a base which the block does not create.
+fn push_read(found: &mut Vec<View>, operand: &Option<Operand>, block: &[Op]) -> Result<(), NoMemory>
+    ensures { IfOk result (λ done. found.new.items ≡ found.old.items ++ filter (λ v. not (creates block.now v.base)) (view_of operand.now)) }
+{
+    if let Some(Operand::Array(view)) = operand {
+        if !creates(block, view.base()) {
+            found.push(view.copied())?;
+        }
+    }
+    Ok(())
+}
+
+fn push_reads(found: &mut Vec<View>, op: &Op, block: &[Op]) -> Result<(), NoMemory>
+    ensures { IfOk result (λ done. found.new.items ≡ found.old.items ++ filter (λ v. not (creates block.now v.base)) (inputs op.now)) }
+{
+    push_read(found, &op.first, block)?;
+    push_read(found, &op.second, block)
+}
+
+/// Takes up the output, unless the block frees its base.
+fn push_write(found: &mut Vec<View>, op: &Op, block: &[Op]) -> Result<(), NoMemory>
+    ensures { IfOk result (λ done. found.new.items ≡ found.old.items ++ filter (λ v. not (freed_by block.now v.base)) (outputs op.now)) }
+{
+    if let Some(view) = &op.out {
+        if !frees(block, view.base()) {
+            found.push(view.copied())?;
+        }
+    }
+    Ok(())
+}
+
+/// The views that a block reads whose base it does not create.
+pub(crate) fn all_reads(alloc: Global, block: &[Op]) -> Result<Vec<View>, NoMemory>
+    ensures { IfOk result (λ found. found.items ≡ all_reads block.now) }
+{
+    let mut found = Vec::new(alloc);
+    for op in block {
+        push_reads(&mut found, op, block)?;
+    }
+    Ok(found)
+}
+
+/// The views that a block writes whose base it does not free, after those found so far.
+pub(crate) fn push_writes(found: &mut Vec<View>, block: &[Op]) -> Result<(), NoMemory>
+    ensures { IfOk result (λ done. found.new.items ≡ found.old.items ++ all_writes block.now) }
+{
+    for op in block {
+        push_write(found, op, block)?;
+    }
+    Ok(())
+}

@@ -1,0 +1,183 @@
+//! The costs of a list.
+ghost use Rattle.std.specs.Prelude.{◌≡◌, ◌≤◌, ◌<◌, ◌+◌, ◌-◌, ◌*◌, ◌++◌, ◌∷◌, [], IfOk, IsTrue, cond, length, slice_index_or};
+ghost use Rattle.arr_view.specs.Views.{has};
+ghost use Rattle.arr_ops.specs.Costs.{block_cost, cost, ext, reads, writes};
+ghost use Rattle.arr_ops.specs.Formed.{is_formed};
+ghost use Rattle.arr_ops.specs.Plans.{is_legal, numbered, ops_of};
+
+use crate::NoMemory;
+use crate::block::{all_reads, push_writes};
+use crate::distinct::distinct;
+use crate::weights::total_weight;
+use arr_ops::{Op, Plan};
+use arr_sets::MOST;
+use arr_view::View;
+use std::alloc::Global;
+use std::marker::Model;
+
+/// The costs of a list of operations, which are numbered from 1 (docs/PLANS.md, "Cost"). A contract sees the list.
+#[derive(Drop)]
+pub struct Costs {
+    ops: Vec<Op>,
+}
+
+impl Model for Costs {
+    ghost use Rattle.std.specs.Prelude.{◌≤◌, List, IsTrue, length};
+    ghost use Rattle.arr_ops.specs.declared.op.Op.{Op};
+    ghost use Rattle.arr_ops.specs.Formed.{is_formed};
+
+    ghost Value = { List Op };
+
+    ghost view = { λ c. c.ops.items };
+
+    ghost invariant = { λ c. (length c.ops.items ≤ 256) × (IsTrue (is_formed c.ops.items)) };
+}
+
+fn copied(alloc: Global, ops: &[Op]) -> Result<Vec<Op>, NoMemory>
+    ensures { IfOk result (λ copy. copy.items ≡ ops.now) }
+{
+    let mut copy = Vec::new(alloc);
+    for op in ops {
+        copy.push(op.copied())?;
+    }
+    Ok(copy)
+}
+
+fn has(block: &[u32], number: u32) -> bool
+    ensures { result ≡ has block.now number }
+{
+    block.iter().any(|other| number == *other)
+}
+
+fn push_if(inside: bool, found: &mut Vec<Op>, op: &Op) -> Result<(), NoMemory>
+    ensures { IfOk result (λ done. found.new.items ≡ found.old.items ++ cond inside (op.now ∷ []) []) }
+{
+    if inside {
+        found.push(op.copied())?;
+    }
+    Ok(())
+}
+
+/// The operations of a block, in the order of the list.
+fn block_ops(alloc: Global, ops: &[Op], block: &[u32]) -> Result<Vec<Op>, NoMemory>
+    requires { length ops.now ≤ 256 }
+    ensures value { IfOk result (λ found. found.items ≡ ops_of (numbered ops.now) block.now) }
+    ensures few { IfOk result (λ found. length found.items ≤ 256) }
+{
+    let mut found = Vec::new(alloc);
+    for place in 0..ops.len() {
+        push_if(has(block, place as u32 + 1), &mut found, &ops[place])?;
+    }
+    Ok(found)
+}
+
+/// What the operations of a block read and write outside it, up to identity.
+fn touched(alloc: Global, block: &[Op]) -> Result<Vec<View>, NoMemory>
+    requires { length block.now ≤ 256 }
+    ensures value { IfOk result (λ found. found.items ≡ ext block.now) }
+    ensures few { IfOk result (λ found. length found.items ≤ 768) }
+{
+    let mut all = all_reads(alloc, block)?;
+    push_writes(&mut all, block)?;
+    let found = distinct(alloc, all.as_slice())?;
+    Ok(found)
+}
+
+/// What a block costs, in bytes.
+fn cost_of(alloc: Global, ops: &[Op], block: &[u32]) -> Result<u64, NoMemory>
+    requires { length ops.now ≤ 256 }
+    ensures value { IfOk result (λ sum. sum ≡ block_cost ops.now block.now) }
+    ensures small { IfOk result (λ sum. sum ≤ 768 * 8388608) }
+{
+    let found = block_ops(alloc, ops, block)?;
+    let views = touched(alloc, found.as_slice())?;
+    Ok(total_weight(ops, views.as_slice()))
+}
+
+impl Costs {
+    /// The costs of a formed list of at most `MOST` operations, with a copy of the list. Want of memory is its one refusal
+    /// (docs/PLANS.md, "Cost").
+    pub fn of(alloc: Global, ops: &[Op]) -> Result<Costs, NoMemory>
+        requires formed { IsTrue (is_formed ops.now) }
+        requires few { length ops.now ≤ MOST }
+        ensures { IfOk result (λ costs. costs ≡ ops.now) }
+    {
+        Ok(Costs {
+            ops: copied(alloc, ops)?,
+        })
+    }
+
+    /// How many operations the list has, at most `MOST`. It takes no memory.
+    pub fn len(&self) -> u32
+        ensures value { result ≡ length self.now }
+        ensures few { result ≤ MOST }
+        ensures formed { IsTrue (is_formed self.now) }
+    {
+        self.ops.len() as u32
+    }
+
+    /// The operation with the number `f`, from 1 to `len`. It takes no memory.
+    pub fn op(&self, f: u32) -> &Op
+        requires least { 0 < f }
+        requires most { f ≤ length self.now }
+        ensures { result.now ≡ slice_index_or self.now (f - 1) result.now }
+    {
+        &self.ops[f as usize - 1]
+    }
+
+    /// The views that a block reads and whose base it does not create, each once, in the order of first sight (docs/PLANS.md, "Cost"). Want of
+    /// memory is its one refusal.
+    pub fn reads(&self, alloc: Global, block: &[u32]) -> Result<Vec<View>, NoMemory>
+        ensures { IfOk result (λ found. found.items ≡ reads (ops_of (numbered self.now) block.now)) }
+    {
+        let ops = block_ops(alloc, self.ops.as_slice(), block)?;
+        let all = all_reads(alloc, ops.as_slice())?;
+        distinct(alloc, all.as_slice())
+    }
+
+    /// The views that a block writes and whose base it does not free, each once, in the order of first sight (docs/PLANS.md, "Cost"). Want of
+    /// memory is its one refusal.
+    pub fn writes(&self, alloc: Global, block: &[u32]) -> Result<Vec<View>, NoMemory>
+        ensures { IfOk result (λ found. found.items ≡ writes (ops_of (numbered self.now) block.now)) }
+    {
+        let ops = block_ops(alloc, self.ops.as_slice(), block)?;
+        let mut all = Vec::new(alloc);
+        push_writes(&mut all, ops.as_slice())?;
+        distinct(alloc, all.as_slice())
+    }
+
+    /// What a block costs, in bytes: what the views weigh that it reads or writes outside itself (docs/PLANS.md, "Cost"). Want of memory is
+    /// its one refusal.
+    pub fn block_cost(&self, alloc: Global, block: &[u32]) -> Result<u64, NoMemory>
+        ensures { IfOk result (λ sum. sum ≡ block_cost self.now block.now) }
+    {
+        cost_of(alloc, self.ops.as_slice(), block)
+    }
+
+    /// What a legal plan of the list costs, in bytes (docs/PLANS.md, "Cost"). Want of memory is its one refusal.
+    pub fn cost(&self, alloc: Global, plan: &Plan) -> Result<u64, NoMemory>
+        requires { IsTrue (is_legal self.now plan.now) }
+        ensures { IfOk result (λ sum. sum ≡ cost self.now plan.now) }
+    {
+        let ops = self.ops.as_slice();
+        let mut sum = 0;
+        for block in &plan.blocks {
+            sum += cost_of(alloc, ops, block.as_slice())?;
+        }
+        Ok(sum)
+    }
+
+    /// What one block in place of two saves, in bytes: the costs of both are the cost of their union and the saving (docs/PLANS.md, "Cost").
+    /// Want of memory is its one refusal.
+    pub fn saving(&self, alloc: Global, a: &[u32], b: &[u32]) -> Result<u64, NoMemory>
+        ensures { IfOk result (λ saved. block_cost self.now (a.now ++ b.now) + saved ≡ block_cost self.now a.now + block_cost self.now b.now) }
+    {
+        let ops = self.ops.as_slice();
+        let mut both = a.to_vec(alloc)?;
+        both.extend_from_slice(b)?;
+        let first = cost_of(alloc, ops, a)?;
+        let second = cost_of(alloc, ops, b)?;
+        let whole = cost_of(alloc, ops, both.as_slice())?;
+        Ok(first + second - whole)
+    }
+}

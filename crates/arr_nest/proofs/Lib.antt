@@ -1,0 +1,2 @@
+mod Successor
+mod Elements

@@ -1,5 +1,0 @@
-use Rattle.arr_record.proofs.Following.{Along}
-use Rattle.arr_record.proofs.recording.flushes.Given as goal
-
-abbrev pub invariant-loop-step : goal.invariant-loop-step
-invariant-loop-step l = Along l.steps l.step-index l.writer l.owners

@@ -1,0 +1,4 @@
+mod Turns
+mod Rows
+mod Lanes
+mod Parts

@@ -1,0 +1,147 @@
+ghost use Rattle.std.specs.Prelude.{ℕ, ℤ, ◌≡◌, ◌+◌, ◌*◌, ◌%◌, ◌<◌, ◌≤◌, IsTrue, length};
+ghost use Rattle.arr_num.specs.Kinds.{is_fold};
+ghost use Rattle.arr_num.specs.Numbers.{value};
+ghost use Rattle.arr_native.specs.Entries.{entry};
+ghost use Rattle.arr_sums.specs.Gathering.{Gathers};
+
+use crate::axis::Axis;
+use crate::folds::{fold_lane, fold_row};
+use arr_native::Native;
+use arr_num::Code;
+
+/// Folds the first `count` numbers of `source`, which stand at the positions from `position` on, into the accumulators of a fold
+/// along an axis (docs/LANGUAGE.md, "Opcodes"). The accumulators, and the positions, stand in row-major order.
+pub fn fold_strip<T: Native>(
+    code: Code,
+    sums: &mut [T],
+    source: &[T],
+    position: usize,
+    count: usize,
+    axis: Axis,
+)
+    requires code { IsTrue (is_fold code) }
+    requires source { count ≤ length source.now }
+    requires sums { length sums.old ≡ axis.outer * axis.inner }
+    requires few { length sums.old ≤ 1048576 }
+    requires some { 1 ≤ axis.length }
+    requires inner { 1 ≤ axis.inner }
+    requires inside { position + count ≤ axis.outer * (axis.length * axis.inner) }
+    requires short { position + count ≤ 1048576 }
+    ensures length { length sums.new ≡ length sums.old }
+    ensures gathered { Gathers (value code T.elem) axis.length axis.inner (length sums.old) (entry T.number sums.old) (entry T.number sums.new) (entry T.number source.now) position 0 count }
+{
+    if axis.inner == 1 {
+        fold_lanes(code, sums, source, position, count, axis);
+    } else {
+        fold_rows(code, sums, source, position, count, axis);
+    }
+}
+
+/// Folds a strip where the positions of a lane lie side by side: each part of a lane goes into one accumulator.
+fn fold_lanes<T: Native>(
+    code: Code,
+    sums: &mut [T],
+    source: &[T],
+    position: usize,
+    count: usize,
+    axis: Axis,
+)
+    requires code { IsTrue (is_fold code) }
+    requires source { count ≤ length source.now }
+    requires sums { length sums.old ≡ axis.outer * axis.inner }
+    requires some { 1 ≤ axis.length }
+    requires inner { axis.inner ≡ 1 }
+    requires inside { position + count ≤ axis.outer * (axis.length * axis.inner) }
+    requires short { position + count ≤ 1048576 }
+    ensures length { length sums.new ≡ length sums.old }
+    ensures gathered { Gathers (value code T.elem) axis.length axis.inner (length sums.old) (entry T.number sums.old) (entry T.number sums.new) (entry T.number source.now) position 0 count }
+{
+    let mut done = 0;
+    while done < count {
+        let place = position + done;
+        let room = axis.length - place % axis.length;
+        let run = room.min(count - done);
+        fold_lane_part(code, sums, source, done, place, run, axis);
+        done += run;
+    }
+}
+
+/// Folds a part of a lane, from a position on.
+#[inline(always)]
+fn fold_lane_part<T: Native>(
+    code: Code,
+    sums: &mut [T],
+    source: &[T],
+    from: usize,
+    place: usize,
+    run: usize,
+    axis: Axis,
+)
+    requires code { IsTrue (is_fold code) }
+    requires source { from + run ≤ length source.now }
+    requires sums { length sums.old ≡ axis.outer * axis.inner }
+    requires some { 1 ≤ axis.length }
+    requires inner { axis.inner ≡ 1 }
+    requires lane { place % axis.length + run ≤ axis.length }
+    requires inside { place < axis.outer * (axis.length * axis.inner) }
+    ensures length { length sums.new ≡ length sums.old }
+    ensures gathered { Gathers (value code T.elem) axis.length axis.inner (length sums.old) (entry T.number sums.old) (entry T.number sums.new) (entry T.number source.now) place from run }
+{
+    fold_lane(code, sums, place / axis.length, source, from, run);
+}
+
+/// Folds a strip by rows of positions that lie side by side: each part of a row goes into accumulators that lie side by side.
+fn fold_rows<T: Native>(
+    code: Code,
+    sums: &mut [T],
+    source: &[T],
+    position: usize,
+    count: usize,
+    axis: Axis,
+)
+    requires code { IsTrue (is_fold code) }
+    requires source { count ≤ length source.now }
+    requires sums { length sums.old ≡ axis.outer * axis.inner }
+    requires few { length sums.old ≤ 1048576 }
+    requires some { 1 ≤ axis.length }
+    requires inner { 1 ≤ axis.inner }
+    requires inside { position + count ≤ axis.outer * (axis.length * axis.inner) }
+    requires short { position + count ≤ 1048576 }
+    ensures length { length sums.new ≡ length sums.old }
+    ensures gathered { Gathers (value code T.elem) axis.length axis.inner (length sums.old) (entry T.number sums.old) (entry T.number sums.new) (entry T.number source.now) position 0 count }
+{
+    let mut done = 0;
+    while done < count {
+        let place = position + done;
+        let room = axis.inner - place % axis.inner;
+        let run = room.min(count - done);
+        fold_row_part(code, sums, source, done, place, run, axis);
+        done += run;
+    }
+}
+
+/// Folds a part of a row, from a position on.
+#[inline(always)]
+fn fold_row_part<T: Native>(
+    code: Code,
+    sums: &mut [T],
+    source: &[T],
+    from: usize,
+    place: usize,
+    run: usize,
+    axis: Axis,
+)
+    requires code { IsTrue (is_fold code) }
+    requires source { from + run ≤ length source.now }
+    requires sums { length sums.old ≡ axis.outer * axis.inner }
+    requires few { length sums.old ≤ 1048576 }
+    requires some { 1 ≤ axis.length }
+    requires inner { 1 ≤ axis.inner }
+    requires row { place % axis.inner + run ≤ axis.inner }
+    requires inside { place < axis.outer * (axis.length * axis.inner) }
+    ensures length { length sums.new ≡ length sums.old }
+    ensures gathered { Gathers (value code T.elem) axis.length axis.inner (length sums.old) (entry T.number sums.old) (entry T.number sums.new) (entry T.number source.now) place from run }
+{
+    let row = place / axis.inner / axis.length * axis.inner;
+    fold_row(code, sums, row + place % axis.inner, source, from, run);
+}
