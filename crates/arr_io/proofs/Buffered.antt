@@ -1,6 +1,5 @@
 -- A buffer before a sink, part by part.
-use Rattle.std.proofs.Common.{◌≡◌, ℕ, ◌+◌, ◌≤◌, List, [], ◌++◌, length, take, ap, sym, ◌∙◌, subst, arith, Option, Bool, true, false, append-nil, append_assoc, length-append, refl, Result, Ok, Err, OnOk, OnErr, is_err}
-use Rattle.std.proofs.lemmas.List.{take-append-le}
+use Rattle.std.proofs.Common.{◌≡◌, ℕ, ◌+◌, ◌≤◌, List, [], ◌++◌, length, take, ap, sym, ◌∙◌, subst, arith, Option, true, false, append-nil, append_assoc, length-append, refl, Result, Ok, Err, OnOk, OnErr, is_err}
 use Rattle.std.proofs.Math.Seq.{take-append-add}
 use Rattle.std.proofs.KnownBytes.{Appends-nil, Appends-trans}
 use Rattle.std.specs.Io.KnownBytes.{Appends}
@@ -11,11 +10,6 @@ use Rattle.arr_io.specs.declared.sink.Sink.{Ghosts}
 use Rattle.arr_io.specs.declared.sink_buffer.SinkBuffer.{SinkBuffer}
 
 -- ---- fronts
-
--- a byte of a text is missing, so one of a longer text is
-part_longer : (old new : Option (List ℕ)) (text rest : List ℕ) → AppendsPart old new text → AppendsPart old new (text ++ rest)
-part_longer old new text rest (k, below, front) =
-    (k, omega (arith, length-append text rest), subst (Appends old new) (sym (take-append-le k text rest (omega arith))) front)
 
 -- all of one piece, and a part of the next
 part_behind : (a b c : Option (List ℕ)) (sent waiting : List ℕ) → Appends a b sent → AppendsPart b c waiting → AppendsPart a c (sent ++ waiting)
@@ -36,37 +30,8 @@ put_as {a = a} {b = b} one same = subst (Puts a b) same one
 pub nothing_put : (a : Outgoing) → Puts a a []
 nothing_put a = record { more = λ start before text got. subst (λ t. Got start before t a) (sym (append-nil text)) got }
 
--- where a write has failed nothing changes
-pub put_failed : (a b : Outgoing) (bytes : List ℕ) → a.failed ≡ true → b.failed ≡ true → b.written ≡ a.written → b.faults ≡ a.faults → Puts a b bytes
-put_failed a b bytes was is bytes_same faults_same =
-    record {
-      more = λ start before text got. record {
-        later = subst (λ n. before ≤ n) (sym faults_same) got.later;
-        whole = λ sound. absurd (let e : true ≡ false = sym is ∙ sound in cc);
-        part = λ _. (
-          subst (Rose before) (sym faults_same) (got.part was).0,
-          subst (λ w. AppendsPart start w (text ++ bytes)) (sym bytes_same) (part_longer start a.written text bytes (got.part was).1),
-        );
-      };
-    }
-
--- bytes that wait behind those that waited
-pub put_waiting : (a b : Outgoing) (bytes : List ℕ) → a.failed ≡ false → b.failed ≡ false → b.written ≡ a.written → b.faults ≡ a.faults → b.waiting ≡ a.waiting ++ bytes → Puts a b bytes
-put_waiting a b bytes was is bytes_same faults_same waits =
-    record {
-      more = λ start before text got. record {
-        later = subst (λ n. before ≤ n) (sym faults_same) got.later;
-        whole = λ _. let w = got.whole was in (
-          w.0,
-          subst (λ o. Appends start o w.0) (sym bytes_same) w.1,
-          ap (λ t. t ++ bytes) w.2 ∙ append_assoc w.0 a.waiting bytes ∙ ap (λ t. w.0 ++ t) (sym waits),
-        );
-        part = λ broken. absurd (let e : true ≡ false = sym broken ∙ is in cc);
-      };
-    }
-
 -- what waited is appended, and then the bytes
-pub put_out : (a b : Outgoing) (bytes : List ℕ) → a.failed ≡ false → b.failed ≡ false → b.waiting ≡ [] → Appends a.written b.written (a.waiting ++ bytes) → a.faults ≤ b.faults → Puts a b bytes
+put_out : (a b : Outgoing) (bytes : List ℕ) → a.failed ≡ false → b.failed ≡ false → b.waiting ≡ [] → Appends a.written b.written (a.waiting ++ bytes) → a.faults ≤ b.faults → Puts a b bytes
 put_out a b bytes was is none_waits out later =
     record {
       more = λ start before text got. record {
@@ -81,7 +46,7 @@ put_out a b bytes was is none_waits out later =
     }
 
 -- a part of what waited and the bytes is appended, and the write fails
-pub put_broken : (a b : Outgoing) (bytes : List ℕ) → a.failed ≡ false → b.failed ≡ true → AppendsPart a.written b.written (a.waiting ++ bytes) → a.faults ≤ b.faults → Rose a.faults b.faults → Puts a b bytes
+put_broken : (a b : Outgoing) (bytes : List ℕ) → a.failed ≡ false → b.failed ≡ true → AppendsPart a.written b.written (a.waiting ++ bytes) → a.faults ≤ b.faults → Rose a.faults b.faults → Puts a b bytes
 put_broken a b bytes was is out later rose =
     record {
       more = λ start before text got. record {
