@@ -1,3 +1,4 @@
 pub mod Causes
 pub mod Taken
 pub mod Std
+pub mod Buffered

@@ -8,7 +8,9 @@
 //! The crate promises, of every source and sink: bytes come and go in order, each once; a fault has its cause; too long
 //! means more bytes than the limit.
 //!
-//! The words of the contracts are in specs/Causes.antt (`Rose`, `HasCause`) and specs/Taken.antt; on the bytes they are
+//! A [`SinkBuffer`] gathers small parts before a sink: what is put into it goes out in order, or a write failed and a byte is missing.
+//!
+//! The words of the contracts are in specs/Buffered.antt (`Puts`), specs/Causes.antt (`Rose`, `HasCause`) and specs/Taken.antt; on the bytes they are
 //! those of std: `Consumes`, `Appends`, `Keeps`, `IsAtEnd`.
 #![tactic(auto)]
 
@@ -16,6 +18,7 @@ mod memory_sink;
 mod memory_source;
 mod reading;
 mod sink;
+mod sink_buffer;
 mod source;
 mod std_sink;
 mod std_source;
@@ -26,6 +29,7 @@ pub use memory_sink::MemorySink;
 pub use memory_source::MemorySource;
 pub use reading::{ReadFailure, read_all, read_up_to};
 pub use sink::{Sink, WriteFault};
+pub use sink_buffer::SinkBuffer;
 pub use source::{Failed, Source};
 pub use std_sink::StdSink;
 pub use std_source::StdSource;

@@ -1,0 +1,4 @@
+pub mod Texts
+pub mod Plans
+pub mod Shown
+pub mod Examples
