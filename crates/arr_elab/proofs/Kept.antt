@@ -1,8 +1,8 @@
 -- The counts stay those of the names.
-use Rattle.std.proofs.Common.{◌≡◌, ◌≢◌, refl, sym, ◌∙◌, ap, subst, ℕ, zero, suc, ◌+◌, ◌<◌, ◌≤◌, List, [], ◌∷◌, ◌++◌, Bool, true, false, ◌||◌, cond, not, nat_lt, nat_le, length, length-append, get_or, set, Some, arith}
+use Rattle.std.proofs.Common.{◌≡◌, ◌≢◌, refl, sym, ◌∙◌, ap, subst, ℕ, zero, suc, ◌+◌, ◌<◌, ◌≤◌, List, [], ◌∷◌, ◌++◌, Bool, true, false, ◌||◌, cond, not, nat_lt, nat_le, length, length-append, get_or, set, arith}
 use Rattle.std.specs.Prelude.{Ok, Err}
 use Rattle.arr_view.specs.Strided.{Strided}
-use Rattle.arr_view.specs.Views.{checked, positions, whole_view}
+use Rattle.arr_view.specs.Views.{positions, whole_view}
 use Rattle.arr_syntax.specs.declared.refusal.Place.{Place}
 use Rattle.arr_syntax.specs.declared.refusal.Kind.TheVariants as kind
 use Rattle.arr_syntax.specs.declared.refusal.Refusal.{Refusal}
@@ -115,9 +115,6 @@ tally_set f g b (suc i) j (n ∷ ns) p e h =
     ∙ ap (λ (bases : List Base). record { length = n; names = g b } ∷ bases) rest
 
 -- ---- as code sees them
-
-pub checked_is : (v w : Strided) → Some w ≡ checked v → w ≡ v
-checked_is v w h = grind (arith, h)
 
 pub same_refusal : (e : ElabFault) (x r : Refusal) → e ≡ Refused x → e ≡ Refused r → x ≡ r
 same_refusal e x r h k = grind (arith, h, k)

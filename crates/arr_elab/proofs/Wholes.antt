@@ -1,10 +1,10 @@
 -- A base that is made whole.
-use Rattle.std.proofs.Common.{◌≡◌, ℕ, zero, suc, ◌+◌, ◌<◌, ◌≤◌, List, true, false, ◌||◌, length, refl, ap, ap₂, sym, ◌∙◌, arith, length-append}
-use Rattle.std.specs.Prelude.{nat_lt}
+use Rattle.std.proofs.Common.{◌≡◌, ℕ, zero, suc, ◌+◌, ◌<◌, ◌≤◌, List, true, false, cond, ◌||◌, length, refl, ap, ap₂, sym, ◌∙◌, arith, length-append}
+use Rattle.std.specs.Prelude.{nat_lt, Some, None}
 use Rattle.std.specs.List.{list_all, range_with_len}
 use Rattle.std.proofs.lemmas.Bool.{and_from, lt-ltb, ne_eqb}
 use Rattle.arr_num.specs.declared.elem.Elem.{Elem}
-use Rattle.arr_view.specs.Views.{elements, positions, has, repeated, repeats, is_view, whole_view, whole_strides}
+use Rattle.arr_view.specs.Views.{elements, positions, has, repeated, repeats, is_view, checked, whole_view, whole_strides}
 use Rattle.arr_view.proofs.Strides.{whole_elements}
 use Rattle.arr_ops.specs.Formed.{is_whole}
 use Rattle.arr_shape.specs.Shapes.{is_shape}
@@ -39,6 +39,9 @@ whole_lawful base shape e =
     let s = shape_of shape e in
     let size : positions shape ≤ 1048576 = s.size in
     is_made base 0 shape (whole_strides shape) (sound_whole 0 shape s (omega arith))
+
+pub whole_there : (base : ℕ) (shape : List ℕ) → is_shape shape ≡ true → checked (whole_view base shape) ≡ Some (whole_view base shape)
+whole_there base shape e = ap (λ b. cond b (Some (whole_view base shape)) None) (whole_lawful base shape e)
 
 pub whole_below : (base : ℕ) (shape : List ℕ) → is_below (positions shape) (whole_view base shape) ≡ true
 whole_below base shape = ap (list_all (λ e. nat_lt e (positions shape))) (whole_elements base shape) ∙ range_below 0 (positions shape) (positions shape) (omega arith)

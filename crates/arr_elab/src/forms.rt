@@ -13,16 +13,15 @@ ghost use Rattle.arr_elab.specs.Outcome.{prepared};
 use crate::codes::{binary_code, elem_of, fold_code, is_reduction, literal_number, unary_code};
 use crate::fault::ElabFault;
 use crate::joined::{filled, joined};
-use crate::operation::{exponent_of, operation, pending, ruled, seen, settled, shape_of, taken};
+use crate::operation::{exponent_of, operation, pending, ruled, seen, settled, taken};
 use crate::reader::Reader;
+use crate::shape::ArrayShape;
 use crate::value::{Array, Prepared, Value};
 use arr_num::Code;
 use arr_overlap::NoMemory;
-use arr_shape::{
-    Slice, checked_axis, checked_shape, reduced, reshape, slice, spread, strided, transpose,
-};
+use arr_shape::{Slice, checked_axis, reshape, slice, spread, strided, transpose};
 use arr_syntax::{Code16, Cut, Expr, ExprForm, Kind, Lengths, Place, Steps, Type4};
-use arr_view::{Shape, View};
+use arr_view::View;
 use std::alloc::Global;
 
 /// The most elements of an array.
@@ -68,7 +67,7 @@ fn unary(
     ensures { Reads (spec.unary at sign (prepared of.now) reader.old) result reader.new }
 {
     let x = array(alloc, reader, of)?;
-    let shape = shape_of(&x.view);
+    let shape = ArrayShape::of(&x.view);
     let op = operation(unary_code(sign), x.elem, x.elem, taken(x.view), None, None);
     Ok(pending(at, shape, op))
 }
@@ -84,7 +83,7 @@ fn cast(
     ensures { Reads (spec.cast at to (prepared of.now) reader.old) result reader.new }
 {
     let x = array(alloc, reader, of)?;
-    let shape = shape_of(&x.view);
+    let shape = ArrayShape::of(&x.view);
     let op = operation(
         Code::Identity,
         elem_of(to),
@@ -107,7 +106,7 @@ fn power(
     ensures { Reads (spec.power at (prepared of.now) exponent reader.old) result reader.new }
 {
     let x = array(alloc, reader, of)?;
-    let shape = shape_of(&x.view);
+    let shape = ArrayShape::of(&x.view);
     let op = operation(
         Code::Power,
         x.elem,
@@ -120,14 +119,14 @@ fn power(
 }
 
 /// The shape of a reduction or a scan along an axis.
-fn fold_shape(code: Code, view: &View, axis: u8) -> Shape
+fn fold_shape(code: Code, view: &View, axis: u8) -> ArrayShape
     requires { axis < length view.now.lengths }
     ensures { result ≡ spec.fold_shape code view.now.lengths axis }
 {
     if is_reduction(code) {
-        reduced(view.shape(), u64::from(axis)).unwrap()
+        ArrayShape::without_axis(view, axis)
     } else {
-        shape_of(view)
+        ArrayShape::of(view)
     }
 }
 
@@ -163,7 +162,7 @@ fn range(at: Place, count: u64, count_at: Place, to: Type4) -> Result<Prepared, 
     if count > MOST_ELEMENTS {
         return Err(ElabFault::at(count_at, Kind::TooManyElements));
     }
-    let shape = Shape::new(&[count as u32]).unwrap();
+    let shape = ArrayShape::line(count as u32);
     let elem = elem_of(to);
     Ok(pending(
         at,
@@ -183,10 +182,7 @@ fn full(
 ) -> Result<Prepared, ElabFault>
     ensures { Reads (spec.full at shape.now (prepared number.now) to reader.old) result reader.new }
 {
-    let lengths = match checked_shape(shape.list.as_slice()) {
-        Ok(lengths) => lengths,
-        Err(fault) => return Err(ruled(shape.at, fault)),
-    };
+    let lengths = reader.shape(shape)?;
     let number = value(alloc, reader, number)?;
     filled(at, lengths, elem_of(to), number)
 }
@@ -237,10 +233,7 @@ fn broadcasted(
     ensures { Reads (spec.broadcasted at (prepared of.now) shape.now reader.old) result reader.new }
 {
     let x = array(alloc, reader, of)?;
-    let lengths = match checked_shape(shape.list.as_slice()) {
-        Ok(lengths) => lengths,
-        Err(fault) => return Err(ruled(shape.at, fault)),
-    };
+    let lengths = reader.shape(shape)?;
     match spread(&x.view, lengths.lengths()) {
         Ok(view) => Ok(seen(x.elem, view)),
         Err(fault) => Err(ruled(at, fault)),
@@ -266,10 +259,7 @@ fn reshaped(
     ensures { Reads (spec.reshaped at (prepared of.now) shape.now reader.old) result reader.new }
 {
     let x = array(alloc, reader, of)?;
-    let lengths = match checked_shape(shape.list.as_slice()) {
-        Ok(lengths) => lengths,
-        Err(fault) => return Err(ruled(shape.at, fault)),
-    };
+    let lengths = reader.shape(shape)?;
     match reshape(&x.view, lengths.lengths()) {
         Ok(view) => Ok(seen(x.elem, view)),
         Err(fault) => Err(ruled(at, fault)),
@@ -289,10 +279,7 @@ fn strided_anew(
     ensures { Reads (spec.strided_anew at (prepared of.now) start shape.now strides.now reader.old) result reader.new }
 {
     let x = array(alloc, reader, of)?;
-    let lengths = match checked_shape(shape.list.as_slice()) {
-        Ok(lengths) => lengths,
-        Err(fault) => return Err(ruled(shape.at, fault)),
-    };
+    let lengths = reader.shape(shape)?;
     let lengths = lengths.lengths();
     if strides.list.len() != lengths.len() {
         return Err(ElabFault::at(strides.at, Kind::RankRange));

@@ -8,6 +8,7 @@ ghost use Rattle.arr_syntax.specs.declared.tree.Form.TheVariants as form;
 use crate::fault::ElabFault;
 use crate::forms::{array_of, value};
 use crate::reader::Reader;
+use crate::shape::ArrayShape;
 use crate::step::Step;
 use crate::target::same_lists;
 use crate::value::Array;
@@ -27,7 +28,7 @@ fn gather_arrays(
 ) -> Result<(), ElabFault>
     ensures { Reads (gather_arrays name.now at source index reader.old) result reader.new }
 {
-    let out = reader.fresh(at, index.view.shape())?;
+    let out = reader.fresh(at, &ArrayShape::of(&index.view))?;
     let made = Array {
         view: out.copied(),
         elem: source.elem,

@@ -10,16 +10,16 @@ ghost use Rattle.arr_elab.specs.Expressions as spec;
 
 use crate::codes::result_type;
 use crate::fault::ElabFault;
-use crate::operation::{operation, pending, ruled, shape_of};
+use crate::operation::{operation, pending, ruled};
+use crate::shape::ArrayShape;
 use crate::value::{Array, Prepared, Value};
 use arr_num::{Code, Elem};
 use arr_ops::Operand;
-use arr_shape::{broadcast, spread};
+use arr_shape::spread;
 use arr_syntax::{Kind, Place};
-use arr_view::Shape;
 
 /// An operation of two operands of one type.
-fn paired(at: Place, code: Code, elem: Elem, shape: Shape, x: Operand, y: Operand) -> Prepared
+fn paired(at: Place, code: Code, elem: Elem, shape: ArrayShape, x: Operand, y: Operand) -> Prepared
     ensures { result ≡ Open (record { at = at; shape = shape; op = spec.operation code (type_of_result code elem) elem (Some x) (Some y) None }) }
 {
     let to = result_type(code, elem);
@@ -39,7 +39,7 @@ fn literal_first(
     if !b.elem.holds(x) {
         return Err(ElabFault::at(left, Kind::LiteralRange));
     }
-    let shape = shape_of(&b.view);
+    let shape = ArrayShape::of(&b.view);
     Ok(paired(
         at,
         code,
@@ -63,7 +63,7 @@ fn literal_last(
     if !a.elem.holds(y) {
         return Err(ElabFault::at(right, Kind::LiteralRange));
     }
-    let shape = shape_of(&a.view);
+    let shape = ArrayShape::of(&a.view);
     Ok(paired(
         at,
         code,
@@ -81,7 +81,7 @@ fn arrays(at: Place, code: Code, a: Array, b: Array) -> Result<Prepared, ElabFau
     if a.elem != b.elem {
         return Err(ElabFault::at(at, Kind::TypeMismatch));
     }
-    let shape = match broadcast(a.view.shape(), b.view.shape()) {
+    let shape = match ArrayShape::joint(&a.view, &b.view) {
         Ok(shape) => shape,
         Err(fault) => return Err(ruled(at, fault)),
     };
@@ -128,7 +128,7 @@ pub(crate) fn joined(at: Place, code: Code, x: Value, y: Value) -> Result<Prepar
 /// An array of one number.
 pub(crate) fn filled(
     at: Place,
-    shape: Shape,
+    shape: ArrayShape,
     elem: Elem,
     value: Value,
 ) -> Result<Prepared, ElabFault>

@@ -27,6 +27,7 @@ mod names;
 mod operation;
 mod reader;
 mod script;
+mod shape;
 mod step;
 mod target;
 mod value;

@@ -13,12 +13,13 @@ ghost use Rattle.arr_elab.specs.Expressions as spec;
 
 use crate::fault::ElabFault;
 use crate::reader::Reader;
+use crate::shape::ArrayShape;
 use crate::value::{Array, Pending, Prepared, Value};
 use arr_num::{Code, Elem};
 use arr_ops::{Op, Operand};
 use arr_shape::ShapeFault;
 use arr_syntax::{Kind, Place};
-use arr_view::{Shape, View};
+use arr_view::View;
 
 /// An operation without an output.
 pub(crate) fn operation(
@@ -72,7 +73,7 @@ pub(crate) fn exponent_of(exponent: u64) -> Option<Operand>
 }
 
 /// An operation that is not recorded yet.
-pub(crate) fn pending(at: Place, shape: Shape, op: Op) -> Prepared
+pub(crate) fn pending(at: Place, shape: ArrayShape, op: Op) -> Prepared
     ensures { result ≡ Open (record { at = at; shape = shape; op = op }) }
 {
     Prepared::Open(Pending { at, shape, op })
@@ -90,7 +91,7 @@ pub(crate) fn seen(elem: Elem, view: View) -> Prepared
 pub(crate) fn written(reader: &mut Reader, pending: Pending) -> Result<Array, ElabFault>
     ensures { Reads (spec.written pending reader.old) result reader.new }
 {
-    let view = reader.fresh(pending.at, pending.shape.lengths())?;
+    let view = reader.fresh(pending.at, &pending.shape)?;
     let elem = pending.op.to;
     reader.act(onto(pending.op, view.copied(), true))?;
     Ok(Array { view, elem })
@@ -128,11 +129,4 @@ pub(crate) fn ruled(at: Place, fault: ShapeFault) -> ElabFault
     ensures { result ≡ Refused (record { at = at; kind = state.kind_of fault }) }
 {
     ElabFault::at(at, kind_of(fault))
-}
-
-/// The shape of a view.
-pub(crate) fn shape_of(view: &View) -> Shape
-    ensures { result ≡ view.now.lengths }
-{
-    Shape::new(view.shape()).unwrap()
 }

@@ -1,6 +1,7 @@
 //! What is known while a script is read, and the steps so far.
 
 ghost use Rattle.std.specs.Prelude.{◌≡◌, ◌||◌, get_or, is_some, nat_lt, IfOk};
+ghost use Rattle.arr_shape.specs.Shapes.{checked_shape};
 ghost use Rattle.arr_elab.specs.Contract.{Reads};
 ghost use Rattle.arr_elab.specs.State as spec;
 ghost use Rattle.arr_elab.specs.State.{most_names, nothing_yet, number_of, stands_for};
@@ -12,11 +13,13 @@ ghost use Rattle.arr_elab.specs.Totals.{base_of};
 use crate::bases::Bases;
 use crate::fault::ElabFault;
 use crate::names::Names;
+use crate::operation::ruled;
+use crate::shape::ArrayShape;
 use crate::step::Step;
 use crate::value::Array;
 use arr_ops::Op;
 use arr_overlap::NoMemory;
-use arr_syntax::{Kind, Place, Word};
+use arr_syntax::{Kind, Lengths, Place, Word};
 use arr_view::View;
 use std::alloc::Global;
 use std::marker::Model;
@@ -82,15 +85,13 @@ impl Reader {
     }
 
     /// A fresh base of these lengths, whole. `TooMuchLive` exactly where there would be more than 16,777,216 live elements.
-    pub(crate) fn fresh(&mut self, at: Place, shape: &[u32]) -> Result<View, ElabFault>
+    pub(crate) fn fresh(&mut self, at: Place, shape: &ArrayShape) -> Result<View, ElabFault>
         ensures { Reads (spec.fresh at shape.now self.old) result self.new }
     {
         let Ok(base) = u32::try_from(self.bases.count()) else {
             return Err(ElabFault::NoMemory);
         };
-        let Some(view) = View::whole(base, shape) else {
-            return Err(ElabFault::NoMemory);
-        };
+        let view = View::whole(base, shape.lengths()).unwrap();
         let count = view.positions();
         if !self.bases.has_room(count) {
             return Err(ElabFault::at(at, Kind::TooMuchLive));
@@ -144,6 +145,16 @@ impl Reader {
         match self.names.get(word.text.as_slice()) {
             Some(array) => Ok(array.copied()),
             None => Err(ElabFault::at(word.at, Kind::UnknownName)),
+        }
+    }
+
+    /// The shape that a script gives; what the rule of shapes refuses is refused at its place.
+    pub(crate) fn shape(&self, shape: &Lengths) -> Result<ArrayShape, ElabFault>
+        ensures { Reads (spec.ruled shape.now.at (checked_shape shape.now.list) self.now) result self.now }
+    {
+        match ArrayShape::checked(shape.list.as_slice()) {
+            Ok(lengths) => Ok(lengths),
+            Err(fault) => Err(ruled(shape.at, fault)),
         }
     }
 

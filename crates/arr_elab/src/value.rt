@@ -2,10 +2,11 @@
 
 ghost use Rattle.std.specs.Prelude.{◌≡◌};
 
+use crate::shape::ArrayShape;
 use arr_num::Elem;
 use arr_ops::Op;
 use arr_syntax::Place;
-use arr_view::{Shape, View};
+use arr_view::View;
 
 /// A view, and the type of its base.
 #[derive(Debug, Drop)]
@@ -28,7 +29,7 @@ pub(crate) struct Pending {
     /// The sign or word that it stands for.
     pub(crate) at: Place,
     /// The shape of its results.
-    pub(crate) shape: Shape,
+    pub(crate) shape: ArrayShape,
     pub(crate) op: Op,
 }
 
