@@ -90,7 +90,8 @@ fn row_sizes(view: &View) -> (u32, u32)
 /// Puts the array in the slot of a SYNC (docs/PLANS.md, "The listing").
 pub fn put_array<K: Sink>(op: &Op, slot: u32, slots: &Slots, out: &mut SinkBuffer, sink: &mut K)
     requires { Shows op.now (slots_of slots.now slot) }
-    ensures { Puts (outgoing K.Sink out.old sink.old) (outgoing K.Sink out.new sink.new) (shown_text (slots_of slots.now slot)) }
+    ensures { Puts (outgoing K.Sink out.old sink.old) (outgoing K.Sink out.new sink.new)
+        (shown_text (slots_of slots.now slot)) }
 {
     let view = shown(&op.first);
     let (count, width) = row_sizes(view);

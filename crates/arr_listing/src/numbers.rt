@@ -22,7 +22,8 @@ pub(crate) fn put_labelled<I: Integer, K: Sink>(
     out: &mut SinkBuffer,
     sink: &mut K,
 )
-    ensures { Puts (outgoing K.Sink out.old sink.old) (outgoing K.Sink out.new sink.new) (labelled_text I.text label.now number) }
+    ensures { Puts (outgoing K.Sink out.old sink.old) (outgoing K.Sink out.new sink.new)
+        (labelled_text I.text label.now number) }
 {
     let Some(number) = number else {
         return;
@@ -33,7 +34,8 @@ pub(crate) fn put_labelled<I: Integer, K: Sink>(
 
 /// Puts numbers, each behind a blank.
 pub(crate) fn put_numbers<K: Sink>(numbers: &[u32], out: &mut SinkBuffer, sink: &mut K)
-    ensures { Puts (outgoing K.Sink out.old sink.old) (outgoing K.Sink out.new sink.new) (numbers_text numbers.now) }
+    ensures { Puts (outgoing K.Sink out.old sink.old) (outgoing K.Sink out.new sink.new)
+        (numbers_text numbers.now) }
 {
     for number in numbers {
         out.put(b" ", sink);

@@ -62,7 +62,8 @@ fn code_name(code: Code) -> &'static str
 
 /// Puts the length and the stride of a dimension.
 fn put_dimension<K: Sink>(length: u32, stride: i32, out: &mut SinkBuffer, sink: &mut K)
-    ensures { Puts (outgoing K.Sink out.old sink.old) (outgoing K.Sink out.new sink.new) (dimension_text length stride) }
+    ensures { Puts (outgoing K.Sink out.old sink.old) (outgoing K.Sink out.new sink.new)
+        (dimension_text length stride) }
 {
     put_number(length, out, sink);
     out.put(b":", sink);
@@ -73,7 +74,8 @@ fn put_dimension<K: Sink>(length: u32, stride: i32, out: &mut SinkBuffer, sink: 
 fn put_dimensions<K: Sink>(lengths: &[u32], strides: &[i32], out: &mut SinkBuffer, sink: &mut K)
     requires some { 0 < length lengths.now }
     requires same_rank { length strides.now ≡ length lengths.now }
-    ensures { Puts (outgoing K.Sink out.old sink.old) (outgoing K.Sink out.new sink.new) (dimensions_text lengths.now strides.now) }
+    ensures { Puts (outgoing K.Sink out.old sink.old) (outgoing K.Sink out.new sink.new)
+        (dimensions_text lengths.now strides.now) }
 {
     put_dimension(lengths[0], strides[0], out, sink);
     for axis in 1..lengths.len() {
@@ -84,7 +86,8 @@ fn put_dimensions<K: Sink>(lengths: &[u32], strides: &[i32], out: &mut SinkBuffe
 
 /// Puts a view of a base of the type.
 fn put_view<K: Sink>(elem: Elem, view: &View, out: &mut SinkBuffer, sink: &mut K)
-    ensures { Puts (outgoing K.Sink out.old sink.old) (outgoing K.Sink out.new sink.new) (view_text elem view.now) }
+    ensures { Puts (outgoing K.Sink out.old sink.old) (outgoing K.Sink out.new sink.new)
+        (view_text elem view.now) }
 {
     out.put(b"b", sink);
     put_number(view.base(), out, sink);
@@ -112,7 +115,8 @@ fn put_output<K: Sink>(
     out: &mut SinkBuffer,
     sink: &mut K,
 )
-    ensures { Puts (outgoing K.Sink out.old sink.old) (outgoing K.Sink out.new sink.new) (output_text makes elem view.now) }
+    ensures { Puts (outgoing K.Sink out.old sink.old) (outgoing K.Sink out.new sink.new)
+        (output_text makes elem view.now) }
 {
     let Some(view) = view else {
         return;
@@ -123,7 +127,8 @@ fn put_output<K: Sink>(
 
 /// Puts a view of a base of the type, or a constant.
 fn put_input<K: Sink>(elem: Elem, operand: &Operand, out: &mut SinkBuffer, sink: &mut K)
-    ensures { Puts (outgoing K.Sink out.old sink.old) (outgoing K.Sink out.new sink.new) (input_text elem operand.now) }
+    ensures { Puts (outgoing K.Sink out.old sink.old) (outgoing K.Sink out.new sink.new)
+        (input_text elem operand.now) }
 {
     match operand {
         Operand::Array(view) => put_view(elem, view, out, sink),
@@ -133,7 +138,8 @@ fn put_input<K: Sink>(elem: Elem, operand: &Operand, out: &mut SinkBuffer, sink:
 
 /// Puts an operand, if it is there.
 fn put_operand<K: Sink>(elem: Elem, operand: &Option<Operand>, out: &mut SinkBuffer, sink: &mut K)
-    ensures { Puts (outgoing K.Sink out.old sink.old) (outgoing K.Sink out.new sink.new) (operand_text elem operand.now) }
+    ensures { Puts (outgoing K.Sink out.old sink.old) (outgoing K.Sink out.new sink.new)
+        (operand_text elem operand.now) }
 {
     let Some(operand) = operand else {
         return;
@@ -144,7 +150,8 @@ fn put_operand<K: Sink>(elem: Elem, operand: &Option<Operand>, out: &mut SinkBuf
 
 /// Puts the line of an operation with its number (docs/PLANS.md, "The listing").
 pub fn put_op<K: Sink>(number: u64, op: &Op, out: &mut SinkBuffer, sink: &mut K)
-    ensures { Puts (outgoing K.Sink out.old sink.old) (outgoing K.Sink out.new sink.new) (op_text number op.now) }
+    ensures { Puts (outgoing K.Sink out.old sink.old) (outgoing K.Sink out.new sink.new)
+        (op_text number op.now) }
 {
     out.put(b"# op ", sink);
     put_number(number, out, sink);

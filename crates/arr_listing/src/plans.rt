@@ -18,7 +18,8 @@ fn put_head<K: Sink>(
     out: &mut SinkBuffer,
     sink: &mut K,
 )
-    ensures { Puts (outgoing K.Sink out.old sink.old) (outgoing K.Sink out.new sink.new) (head_text recorded number left blocks cost) }
+    ensures { Puts (outgoing K.Sink out.old sink.old) (outgoing K.Sink out.new sink.new)
+        (head_text recorded number left blocks cost) }
 {
     out.put(b"# flush ", sink);
     put_number(number, out, sink);
@@ -44,7 +45,8 @@ fn put_ops<K: Sink>(ops: &[Op], out: &mut SinkBuffer, sink: &mut K)
 
 /// Puts the line of a block.
 fn put_block<K: Sink>(number: u64, cost: u64, block: &[u32], out: &mut SinkBuffer, sink: &mut K)
-    ensures { Puts (outgoing K.Sink out.old sink.old) (outgoing K.Sink out.new sink.new) (block_text number cost block.now) }
+    ensures { Puts (outgoing K.Sink out.old sink.old) (outgoing K.Sink out.new sink.new)
+        (block_text number cost block.now) }
 {
     out.put(b"# block ", sink);
     put_number(number, out, sink);
@@ -58,7 +60,8 @@ fn put_block<K: Sink>(number: u64, cost: u64, block: &[u32], out: &mut SinkBuffe
 /// Puts a line for each block, with its cost.
 fn put_blocks<K: Sink>(blocks: &[Vec<u32>], costs: &[u64], out: &mut SinkBuffer, sink: &mut K)
     requires { length costs.now ≡ length blocks.now }
-    ensures { Puts (outgoing K.Sink out.old sink.old) (outgoing K.Sink out.new sink.new) (blocks_text 1 (map (λ b. b.items) blocks.now) costs.now) }
+    ensures { Puts (outgoing K.Sink out.old sink.old) (outgoing K.Sink out.new sink.new)
+        (blocks_text 1 (map (λ b. b.items) blocks.now) costs.now) }
 {
     for (index, block) in blocks.iter().enumerate() {
         put_block(index as u64 + 1, costs[index], block, out, sink);
@@ -94,7 +97,8 @@ pub fn put_plan<K: Sink>(
 )
     requires same_count { length costs.now ≡ length plan.now }
     requires small { sum costs.now < 2 ^ 40 }
-    ensures { Puts (outgoing K.Sink out.old sink.old) (outgoing K.Sink out.new sink.new) (plan_text recorded number ops.now plan.now costs.now) }
+    ensures { Puts (outgoing K.Sink out.old sink.old) (outgoing K.Sink out.new sink.new)
+        (plan_text recorded number ops.now plan.now costs.now) }
 {
     let blocks = blocks_of(plan);
     put_head(
@@ -144,7 +148,8 @@ fn mark(cost: u64, bound: u64) -> &'static str
 
 /// Puts the bound line of a flush (docs/PLANS.md, "The listing"). Cost and bound are in bytes.
 pub fn put_bound<K: Sink>(cost: u64, bound: u64, units: u64, out: &mut SinkBuffer, sink: &mut K)
-    ensures { Puts (outgoing K.Sink out.old sink.old) (outgoing K.Sink out.new sink.new) (bound_text cost bound units) }
+    ensures { Puts (outgoing K.Sink out.old sink.old) (outgoing K.Sink out.new sink.new)
+        (bound_text cost bound units) }
 {
     out.put(b"# bound ", sink);
     put_number(bound, out, sink);
