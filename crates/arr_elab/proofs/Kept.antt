@@ -2,7 +2,9 @@
 use Rattle.std.proofs.Common.{◌≡◌, ◌≢◌, refl, sym, ◌∙◌, ap, subst, ℕ, zero, suc, ◌+◌, ◌<◌, ◌≤◌, List, [], ◌∷◌, ◌++◌, Bool, true, false, ◌||◌, cond, not, nat_lt, nat_le, length, length-append, get_or, set, arith}
 use Rattle.std.specs.Prelude.{Ok, Err}
 use Rattle.arr_view.specs.Strided.{Strided}
-use Rattle.arr_view.specs.Views.{positions, whole_view}
+use Rattle.std.specs.List.{list_all}
+use Rattle.std.proofs.lemmas.Bool.{and_parts, and_from, le-leb}
+use Rattle.arr_view.specs.Views.{most_elements, positions, whole_view}
 use Rattle.arr_syntax.specs.declared.refusal.Place.{Place}
 use Rattle.arr_syntax.specs.declared.refusal.Kind.TheVariants as kind
 use Rattle.arr_syntax.specs.declared.refusal.Refusal.{Refusal}
@@ -12,7 +14,7 @@ use Rattle.arr_elab.specs.declared.step.Step.{Step}
 use Rattle.std.proofs.lemmas.List.{length-map}
 use Rattle.arr_elab.specs.declared.bases.Base.{Base}
 use Rattle.arr_elab.specs.State.{Names, State, has_base, is_named, live_from, most_live, fresh}
-use Rattle.arr_elab.specs.Totals.{Held, IsKept, lengths, live_by, names_of, tally}
+use Rattle.arr_elab.specs.Totals.{Held, IsKept, IsBounded, lengths, live_by, names_of, tally}
 
 -- ---- live elements
 
@@ -83,6 +85,19 @@ kept_made names held n k =
     let is : held.list ++ x ∷ [] ≡ tally f 0 (lengths (held.list ++ x ∷ [])) =
     ap (λ (bases : List Base). bases ++ x ∷ []) k.0 ∙ sym (tally_more f 0 n ns free) ∙ ap (tally f 0) (sym (lengths_more held.list x)) in
     (is, λ b le. k.1 b (omega (arith, le, length-append held.list (x ∷ []))))
+
+pub bounded_made : (names : Names) (held : Held) (n : ℕ) → IsBounded names (lengths held.list) → length held.list < 4294967296 → n ≤ most_elements
+    → IsBounded names (lengths (held.list ++ record { length = n; names = 0 } ∷ []))
+bounded_made names held n s low small =
+    let ns : List ℕ = lengths held.list in
+    let long : length ns ≡ length held.list = length-map held.list _ in
+    let all : list_all (λ n. nat_le n most_elements) (ns ++ n ∷ []) ≡ true = all_more ns n s.2 (le-leb n most_elements small) in
+    subst (λ (ls : List ℕ). IsBounded names ls) (sym (lengths_more held.list (record { length = n; names = 0 })))
+    (s.0, omega (arith, low, long, length-append ns (n ∷ [])), all)
+  where
+    all_more : (ms : List ℕ) (m : ℕ) → list_all (λ n. nat_le n most_elements) ms ≡ true → nat_le m most_elements ≡ true → list_all (λ n. nat_le n most_elements) (ms ++ m ∷ []) ≡ true
+    all_more [] m h e = and_from (nat_le m most_elements) true e refl
+    all_more (x ∷ ms) m h e = let both = and_parts (nat_le x most_elements) _ h in and_from (nat_le x most_elements) _ both.0 (all_more ms m both.1 e)
 
 -- ---- one name more or less
 

@@ -1,14 +1,18 @@
 -- A name stands for something else: the counts go with it.
-use Rattle.std.proofs.Common.{◌≡◌, ◌≢◌, refl, sym, ◌∙◌, ap, subst, ℕ, suc, ◌+◌, ◌-◌, ◌<◌, ◌≤◌, List, [], ◌∷◌, true, nat_lt, length, get_or, set, Option, None, Some, arith}
-use Rattle.std.specs.Prelude.{IsTrue, Ok}
+use Rattle.std.proofs.Common.{◌≡◌, ◌≢◌, refl, sym, ◌∙◌, ap, subst, ℕ, zero, suc, ◌+◌, ◌-◌, ◌*◌, ◌<◌, ◌≤◌, List, [], ◌∷◌, true, nat_lt, length, get_or, set, Option, None, Some, arith}
+use Rattle.std.specs.Prelude.{IsTrue, Ok, nat_le, is_some, ◌||◌}
+use Rattle.std.specs.List.{count_by, list_all}
+use Rattle.std.proofs.lemmas.Bool.{and_parts, and_from, leb-true, ltb-true, lt-ltb}
+use Rattle.arr_view.specs.Views.{most_elements}
 use Rattle.std.proofs.lemmas.List.{length-map}
 use Rattle.arr_elab.specs.declared.bases.Base.{Base}
 use Rattle.arr_elab.specs.declared.value.Array.{Array}
 use Rattle.arr_elab.specs.declared.step.Step.{Step}
-use Rattle.arr_elab.specs.State.{Names, State, stands_for, with_name}
+use Rattle.arr_elab.specs.State.{Names, State, stands_for, with_name, is_bound, most_names}
 use Rattle.arr_elab.specs.Outcome.{set_name}
-use Rattle.arr_elab.specs.Totals.{Held, IsKept, no_base, lengths, names_of, tally, base_of, may_hold, may_release, hold_if, release_if, may_hold_if, may_release_if}
-use Rattle.arr_elab.proofs.Named.{one_of, names_with}
+use Rattle.arr_elab.specs.Totals.{Held, IsKept, IsBounded, is_there, has_place, live_by, no_base, lengths, names_of, tally, base_of, may_hold, may_release, hold_if, release_if, may_hold_if, may_release_if}
+use Rattle.arr_elab.proofs.Named.{one, one_of, names_with, bound_with, count_more}
+use Rattle.arr_elab.proofs.Totals.{weight_le}
 use Rattle.arr_elab.proofs.Kept.{seen, tally_same, tally_at, tally_set}
 
 one_here : (a : Array) → one_of a.view.base (Some a) ≡ 1
@@ -112,6 +116,62 @@ moved names held mid after name array k h m a =
     let long : length after.list ≡ length held.list = ap length a ∙ length_tally g 0 ns ∙ length-map held.list _ in
     (a ∙ ap (tally g 0) (sym same), λ b le. beyond names held name array k h b (omega (arith, le, long)))
 
+-- ---- the counts have room
+
+-- no more names stand for a base than are bound
+names_few : (names : Names) (b : ℕ) → names_of names b ≤ count_by is_bound names
+names_few [] b = omega arith
+names_few (e ∷ es) b = omega (arith, names_few es b, count_more e es, once e.1)
+  where
+    once : (o : Option Array) → one_of b o ≤ one o
+    once None = omega arith
+    once (Some a) = grind arith
+
+live_small : (f k : ℕ) (xs : List Base) → list_all (λ n. nat_le n most_elements) (lengths xs) ≡ true → live_by f k xs ≤ length xs * most_elements
+live_small f k [] h = omega arith
+live_small f k (x ∷ xs) h =
+    let both = and_parts (nat_le x.length most_elements) _ h in
+    let here : x.length ≤ most_elements = leb-true x.length most_elements both.0 in
+    omega (arith, here, weight_le f k x, live_small f (suc k) xs both.1)
+
+long_small : (xs : List Base) (b : ℕ) → list_all (λ n. nat_le n most_elements) (lengths xs) ≡ true → (get_or xs b no_base).length ≤ most_elements
+long_small [] zero h = omega arith
+long_small [] (suc b) h = omega arith
+long_small (x ∷ xs) zero h = leb-true x.length most_elements (and_parts (nat_le x.length most_elements) _ h).0
+long_small (x ∷ xs) (suc b) h = long_small xs b (and_parts (nat_le x.length most_elements) _ h).1
+
+pub hold_allowed : (names : Names) (held : Held) (array : Option Array) (new : Option ℕ) → IsKept names held → IsBounded names (lengths held.list) → new ≡ base_of array
+    → IsTrue (is_there array (lengths held.list)) → true ≡ may_hold_if held new
+hold_allowed names held None new k s a h = ap (may_hold_if held) (sym a)
+hold_allowed names held (Some a) new k s i h =
+    let b : ℕ = a.view.base in
+    let ns : List ℕ = lengths held.list in
+    let long : length ns ≡ length held.list = length-map held.list _ in
+    let low : b < length ns = ltb-true b (length ns) h in
+    let at : (get_or held.list b no_base).names ≡ names_of names b =
+    ap (λ (xs : List Base). (get_or xs b no_base).names) k.0 ∙ ap (λ (x : Base). x.names) (tally_at (names_of names) 0 b b ns no_base low (omega arith)) in
+    let few : (get_or held.list b no_base).names < 4294967295 = omega (arith, at, names_few names b, s.0) in
+    let live : live_by held.first 0 held.list ≤ length held.list * most_elements = live_small held.first 0 held.list s.2 in
+    let more : (get_or held.list b no_base).length ≤ most_elements = long_small held.list b s.2 in
+    let short : length held.list ≤ 4294967296 = omega (arith, long, s.1) in
+    let room : live_by held.first 0 held.list + (get_or held.list b no_base).length < 18446744073709551616 = omega (arith, live, more, short) in
+    let first : nat_lt b (length held.list) ≡ true = lt-ltb b (length held.list) (omega (arith, low, long)) in
+    let second : nat_lt (get_or held.list b no_base).names 4294967295 ≡ true = lt-ltb (get_or held.list b no_base).names 4294967295 few in
+    let third : nat_lt (live_by held.first 0 held.list + (get_or held.list b no_base).length) 18446744073709551616 ≡ true =
+    lt-ltb (live_by held.first 0 held.list + (get_or held.list b no_base).length) 18446744073709551616 room in
+    sym (ap (may_hold_if held) i ∙ and_from (nat_lt b (length held.list)) _ first (and_from (nat_lt (get_or held.list b no_base).names 4294967295) _ second third))
+
+-- with the name, no more names are bound than may be
+pub bound_still : (names : Names) (name : List ℕ) (array : Option Array) → count_by is_bound names ≤ most_names → IsTrue (has_place array names name)
+    → count_by is_bound (with_name names name array) ≤ most_names
+bound_still names name None few h = omega (arith, few, bound_with names name None)
+bound_still names name (Some a) few h = by (stands_for names name) (bound_with names name (Some a)) h
+  where
+    by : (o : Option Array) → count_by is_bound (with_name names name (Some a)) + one o ≡ count_by is_bound names + 1 → (is_some o || nat_lt (count_by is_bound names) most_names) ≡ true
+        → count_by is_bound (with_name names name (Some a)) ≤ most_names
+    by None e h = let low : count_by is_bound names < most_names = ltb-true (count_by is_bound names) most_names h in omega (arith, e, low)
+    by (Some x) e h = omega (arith, e, few)
+
 -- ---- as code sees them
 
 mid_is : (names : Names) (held mid : Held) (array : Option Array) (new : Option ℕ) → IsKept names held → new ≡ base_of array → true ≡ may_hold_if held new → mid ≡ hold_if held new →
@@ -142,6 +202,15 @@ kept_after names names' held mid after name array new old k a b t m e n =
     let room : IsTrue (may_hold_if held (base_of array)) = ap (may_hold_if held) (sym a) ∙ sym t in
     subst (λ (ns : Names). IsKept ns after) (sym n)
     (moved names held mid after name array k room (mid_is names held mid array new k a t m) (after_is names held mid after name array new old k a b t m e))
+
+pub bounded_after : (names names' : Names) (held mid after : Held) (name : List ℕ) (array : Option Array) (new old : Option ℕ) → IsKept names held →
+    new ≡ base_of array → old ≡ base_of (stands_for names name) → true ≡ may_hold_if held new → mid ≡ hold_if held new → after ≡ release_if mid old →
+    names' ≡ with_name names name array → IsBounded names (lengths held.list) → IsTrue (has_place array names name) → IsBounded names' (lengths after.list)
+bounded_after names names' held mid after name array new old k a b t m e n s h =
+    let same : lengths held.list ≡ lengths after.list =
+    sym (ap lengths (after_is names held mid after name array new old k a b t m e) ∙ lengths_tally (names_of (with_name names name array)) 0 (lengths held.list)) in
+    subst (λ (ns : Names). IsBounded ns (lengths after.list)) (sym n)
+    (subst (λ (ls : List ℕ). IsBounded (with_name names name array) ls) same (bound_still names name array s.0 h, s.1, s.2))
 
 first_held : (held : Held) (o : Option ℕ) → (hold_if held o).first ≡ held.first
 first_held held None = refl

@@ -1,5 +1,5 @@
 -- What a script does: its steps, or the first refusal.
-use Rattle.std.specs.Prelude.{ℕ, List, [], ◌∷◌, false, not, ◌||◌, nat_lt, length, if◌then◌else◌, Option, Some, None, is_some, Ok}
+use Rattle.std.specs.Prelude.{◌≡◌, ℕ, List, [], ◌∷◌, false, not, ◌||◌, nat_lt, length, if◌then◌else◌, Option, Some, None, is_some, Ok}
 use Rattle.std.specs.List.{count_by}
 use Rattle.arr_num.specs.declared.code.Code.TheVariants as code
 use Rattle.arr_num.specs.Numbers.{in_type}
@@ -22,7 +22,7 @@ use Rattle.arr_elab.specs.declared.value.Prepared.{Prepared}
 use Rattle.arr_elab.specs.declared.value.Prepared.TheVariants.{Ready, Open}
 use Rattle.arr_elab.specs.declared.step.Step.{Step}
 use Rattle.arr_elab.specs.declared.step.Step.TheVariants.{Name, Forget, Done, Cut, Gather, Scatter}
-use Rattle.arr_elab.specs.State.{Names, Reading, Checked, and_then, ◌>>=◌, ◌>>◌, pure, require, ruled, known, step, act, fresh, stands_for, number_of, with_name, is_bound, most_names, nothing_yet}
+use Rattle.arr_elab.specs.State.{State, Names, Reading, Checked, and_then, ◌>>=◌, ◌>>◌, pure, require, ruled, known, step, act, fresh, stands_for, number_of, with_name, is_bound, most_names, nothing_yet}
 use Rattle.arr_elab.specs.Expressions.{operation, onto, taken, written, settled, array_of, array, lookup, named, literal, unary, cast, power, binary, fold, range, full, index, broadcasted, transposed, reshaped, strided_anew}
 
 -- ---- an expression, by its form
@@ -165,3 +165,13 @@ statements (s ∷ ss) = statement s >> statements ss
 -- the steps of a script, or its first refusal
 abbrev pub outcome : List Statement → Checked (List Step)
 outcome script = and_then (statements script nothing_yet) (λ done. Ok done.1.steps)
+
+-- ---- on the way
+
+-- where some statements lead
+abbrev pub IsReached : State → Type 0
+IsReached s = (read : List Statement) × (statements read nothing_yet ≡ Ok (tt, s))
+
+-- where one more begins
+abbrev pub IsBegun : State → Type 0
+IsBegun s = (old : State) × IsReached old × (begin old ≡ Ok (tt, s))

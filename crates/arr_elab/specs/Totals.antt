@@ -1,8 +1,10 @@
 -- The totals that are kept while a script is read: how many names stand for each base, and the live elements.
-use Rattle.std.specs.Prelude.{◌≡◌, ◌≤◌, ℕ, suc, ◌+◌, ◌-◌, List, [], ◌∷◌, Bool, true, Option, Some, None, length, ◌||◌, ◌&&◌, nat_lt, nat_le, cond, map, get_or, slice_set}
+use Rattle.std.specs.Prelude.{◌≡◌, ◌≤◌, ℕ, suc, ◌+◌, ◌-◌, List, [], ◌∷◌, Bool, true, Option, Some, None, is_some, length, IsTrue, ◌||◌, ◌&&◌, nat_lt, nat_le, cond, map, get_or, slice_set}
 use Rattle.arr_elab.specs.declared.bases.Base.{Base}
 use Rattle.arr_elab.specs.declared.value.Array.{Array}
-use Rattle.arr_elab.specs.State.{Names, has_base}
+use Rattle.std.specs.List.{count_by, list_all}
+use Rattle.arr_view.specs.Views.{most_elements}
+use Rattle.arr_elab.specs.State.{Names, has_base, is_bound, most_names, stands_for}
 
 -- the bases so far, and the first base of the statement
 pub record Held : Type 0 where
@@ -77,7 +79,23 @@ abbrev pub release_if : Held → Option ℕ → Held
 release_if held None = held
 release_if held (Some b) = release held b
 
+-- ---- a name that stands for an array, or for none
+
+-- the base of the array is there
+abbrev pub is_there : Option Array → List ℕ → Bool
+is_there None ns = true
+is_there (Some array) ns = nat_lt array.view.base (length ns)
+
+-- the name is bound already, or one more may be
+abbrev pub has_place : Option Array → Names → List ℕ → Bool
+has_place None names name = true
+has_place (Some array) names name = is_some (stands_for names name) || nat_lt (count_by is_bound names) most_names
+
 -- ---- names and bases together
+
+-- so many names are bound, and so many bases of such lengths made, at most
+abbrev pub IsBounded : Names → List ℕ → Type 0
+IsBounded names ns = (count_by is_bound names ≤ most_names) × (length ns ≤ 4294967296) × IsTrue (list_all (λ n. nat_le n most_elements) ns)
 
 -- the counts are those of the names, and each name stands for a base that is there
 abbrev pub IsKept : Names → Held → Type 0

@@ -109,18 +109,6 @@ impl Bases {
         self.list[at] = base;
     }
 
-    /// Whether a base is there, and the counts have room for one more name of it.
-    fn has_room_for(&self, base: u32) -> bool
-        ensures { result ≡ may_hold self.now base }
-    {
-        let live = self.live;
-        match self.list.get(base as usize) {
-            Some(base) => base.names < u32::MAX
-                && live.checked_add(u64::from(base.length)).is_some(),
-            None => false,
-        }
-    }
-
     /// One more name stands for a base.
     fn hold_one(&mut self, base: u32)
         requires { IsTrue (may_hold self.old base) }
@@ -149,16 +137,6 @@ impl Bases {
                 names: names - 1,
             },
         );
-    }
-
-    /// Whether one more name may stand for a base, if one is given.
-    pub(crate) fn may_hold(&self, base: Option<u32>) -> bool
-        ensures { result ≡ may_hold_if self.now base }
-    {
-        match base {
-            Some(base) => self.has_room_for(base),
-            None => true,
-        }
     }
 
     /// One more name stands for a base, if one is given.

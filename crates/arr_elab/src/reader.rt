@@ -1,6 +1,6 @@
 //! What is known while a script is read, and the steps so far.
 
-ghost use Rattle.std.specs.Prelude.{◌≡◌, ◌||◌, get_or, is_some, nat_lt, IfOk};
+ghost use Rattle.std.specs.Prelude.{◌≡◌, ◌<◌, ◌||◌, get_or, length, is_some, nat_lt, IfOk, IsTrue};
 ghost use Rattle.arr_shape.specs.Shapes.{checked_shape};
 ghost use Rattle.arr_elab.specs.Contract.{Reads};
 ghost use Rattle.arr_elab.specs.State as spec;
@@ -8,7 +8,7 @@ ghost use Rattle.arr_elab.specs.State.{most_names, nothing_yet, number_of, stand
 ghost use Rattle.arr_elab.specs.Expressions.{lookup};
 ghost use Rattle.arr_elab.specs.Outcome.{bind, bound, forget, set_name};
 ghost use Rattle.arr_elab.specs.Outcome as outcome;
-ghost use Rattle.arr_elab.specs.Totals.{base_of};
+ghost use Rattle.arr_elab.specs.Totals.{base_of, has_place, is_there};
 
 use crate::bases::Bases;
 use crate::fault::ElabFault;
@@ -34,13 +34,13 @@ pub(crate) struct Reader {
 
 impl Model for Reader {
     ghost use Rattle.arr_elab.specs.State.{State};
-    ghost use Rattle.arr_elab.specs.Totals.{IsKept, lengths};
+    ghost use Rattle.arr_elab.specs.Totals.{IsKept, IsBounded, lengths};
 
     ghost Value = { State };
 
     ghost view = { λ r. record { names = r.names; bases = lengths r.bases.list; first = r.bases.first; steps = r.steps.items } };
 
-    ghost invariant = { λ r. IsKept r.names r.bases };
+    ghost invariant = { λ r. (IsKept r.names r.bases) × (IsBounded r.names (lengths r.bases.list)) };
 }
 
 /// At most so many names are bound at once.
@@ -125,13 +125,12 @@ impl Reader {
         name: &[u8],
         array: Option<Array>,
     ) -> Result<(), ElabFault>
+        requires there { IsTrue (is_there array self.old.bases) }
+        requires few { IsTrue (has_place array self.old.names name.now) }
         ensures { Reads (set_name name.now array self.old) result self.new }
     {
         let new = base_of(&array);
         let old = self.base(name);
-        if !self.bases.may_hold(new) {
-            return Err(ElabFault::NoMemory);
-        }
         self.names.set(alloc, name, array)?;
         self.bases.hold(new);
         self.bases.release(old);
@@ -184,6 +183,7 @@ impl Reader {
 
     /// A name stands for an array from here on. `TooManyNames` exactly where it is new and 1,024 names are bound.
     pub(crate) fn bind(&mut self, alloc: Global, word: &Word, array: Array) -> Result<(), ElabFault>
+        requires { array.view.base < length self.old.bases }
         ensures { Reads (bind word.now array self.old) result self.new }
     {
         let number = self.number(word.text.as_slice())?;

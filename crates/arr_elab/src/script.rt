@@ -5,6 +5,7 @@ ghost use Rattle.arr_syntax.specs.declared.refusal.Refusal.{Refusal};
 ghost use Rattle.arr_elab.specs.declared.fault.ElabFault.TheVariants.{Refused};
 ghost use Rattle.arr_elab.specs.Contract.{Reads};
 ghost use Rattle.arr_elab.specs.Outcome as spec;
+ghost use Rattle.arr_elab.specs.Outcome.{IsBegun, IsReached};
 ghost use Rattle.arr_elab.specs.Recording.{is_recording};
 ghost use Rattle.arr_syntax.specs.declared.tree.Form.TheVariants as form;
 
@@ -41,6 +42,7 @@ fn assign(
 }
 
 fn effect(alloc: Global, reader: &mut Reader, form: &Form) -> Result<(), ElabFault>
+    requires { IsBegun reader.old }
     ensures { Reads (spec.effect form.now reader.old) result reader.new }
 {
     match form {
@@ -72,6 +74,7 @@ fn effect(alloc: Global, reader: &mut Reader, form: &Form) -> Result<(), ElabFau
 }
 
 fn statement(alloc: Global, reader: &mut Reader, statement: &Statement) -> Result<(), ElabFault>
+    requires { IsReached reader.old }
     ensures { Reads (spec.statement statement.now reader.old) result reader.new }
 {
     reader.begin()?;
@@ -80,6 +83,7 @@ fn statement(alloc: Global, reader: &mut Reader, statement: &Statement) -> Resul
 }
 
 fn statements(alloc: Global, reader: &mut Reader, mut rest: &[Statement]) -> Result<(), ElabFault>
+    requires { IsReached reader.old }
     ensures { Reads (spec.statements rest.entry.now reader.old) result reader.new }
 {
     while let [first, others @ ..] = rest {
