@@ -5,5 +5,6 @@ pub mod Spacing
 pub mod Smaller
 pub mod Columns
 pub mod Runs
+pub mod Steps
 mod ClassesSeen
 mod ClassesMeet

@@ -1,14 +1,13 @@
 -- Elements that are marked one after another.
-use Rattle.std.proofs.Common.{◌≡◌, ℕ, zero, suc, ◌+◌, ◌<◌, ℤ, pos, negsuc, List, [], ◌∷◌, ◌++◌, Bool, true, false, length, map, get_or, set, replicate, refl, ap, ap₂, sym, ◌∙◌, arith, append_assoc, append-nil}
+use Rattle.std.proofs.Common.{◌≡◌, ℕ, zero, suc, ◌<◌, ℤ, pos, negsuc, List, [], ◌∷◌, ◌++◌, Bool, true, false, length, map, get_or, set, replicate, refl, ap, ap₂, sym, ◌∙◌, arith, append_assoc, append-nil}
 use Rattle.std.specs.Prelude.{◌==◌, ◌&&◌, ◌||◌, nat_eq, nat_lt}
-use Rattle.std.specs.List.{list_all, range_with_len}
+use Rattle.std.specs.List.{list_all}
 use Rattle.std.proofs.lemmas.Bool.{and_parts, and_from, eqb-true, eqb-false, eq-eqb, ne_eqb, ltb-true, false≢true}
 use Rattle.std.proofs.lemmas.List.{get_or-set_same, get_or-set_other, length-set, length-replicate}
 use Rattle.std.proofs.lemmas.List.Folds.{list_any-append}
 use Rattle.arr_view.specs.Strided.{Strided}
-use Rattle.arr_view.specs.Views.{elements, has, is_consecutive, is_place, is_view, overlap, places, positions, repeated, repeats, share, to_place, most_elements}
+use Rattle.arr_view.specs.Views.{elements, has, is_place, is_view, overlap, places, repeated, share, to_place, most_elements}
 use Rattle.arr_view.proofs.Checks.{lawful}
-use Rattle.arr_view.proofs.Known.{same_lists-true}
 use Rattle.arr_overlap.specs.Marks.{Marks}
 
 -- ---- elements lie below the bound
@@ -48,7 +47,7 @@ has_more xs x y = list_any-append (nat_eq y) xs (x ∷ []) ∙ ap (λ b. has xs 
     or_false true = refl
     or_false false = refl
 
-or_true : (b : Bool) → (b || true) ≡ true
+pub or_true : (b : Bool) → (b || true) ≡ true
 or_true true = refl
 or_true false = refl
 
@@ -77,16 +76,16 @@ marks_more bits xs x marks h =
 symmetric : (x y : ℕ) → (x == y) ≡ false → (y == x) ≡ false
 symmetric x y e = ne_eqb y x (λ z. let z' : y ≡ x = z in eqb-false x y e (sym z'))
 
+pub neither : (p q : Bool) → (p || q) ≡ false → (p ≡ false) × (q ≡ false)
+neither true q e = absurd (false≢true (sym e))
+neither false q e = (refl, e)
+
 pub fresh_more : (xs : List ℕ) (x : ℕ) → repeated xs ≡ false → has xs x ≡ false → repeated (xs ++ x ∷ []) ≡ false
 fresh_more [] x f h = refl
 fresh_more (y ∷ ys) x f h =
     let a = neither (has ys y) (repeated ys) f in
     let b = neither (x == y) (has ys x) h in
     ap₂ (λ p q. p || q) (has_more ys x y ∙ ap₂ (λ p q. p || q) a.0 (symmetric x y b.0)) (fresh_more ys x a.1 b.1)
-  where
-    neither : (p q : Bool) → (p || q) ≡ false → (p ≡ false) × (q ≡ false)
-    neither true q e = absurd (false≢true (sym e))
-    neither false q e = (refl, e)
 
 has_front : (xs rest : List ℕ) (y : ℕ) → has xs y ≡ true → has (xs ++ rest) y ≡ true
 has_front xs rest y h = list_any-append (nat_eq y) xs rest ∙ ap (λ b. b || has rest y) h
@@ -124,15 +123,3 @@ at_end all front iterator whole none = whole ∙ ap (λ r. front ++ r) none ∙ 
 -- views of one base meet exactly where their elements do
 pub meet_on : (v w : Strided) (b : Bool) → v.base ≡ w.base → share (elements v) (elements w) ≡ b → overlap v w ≡ b
 meet_on v w b same e = ap₂ (λ x y. x && y) (eq-eqb v.base w.base same) e
-
--- numbers in a row don't repeat
-not_before : (n a x : ℕ) → x < a → has (range_with_len a n) x ≡ false
-not_before zero a x h = refl
-not_before (suc n) a x h = ap₂ (λ p q. p || q) (ne_eqb x a (λ z. let z' : x ≡ a = z in omega arith)) (not_before n (a + 1) x (omega arith))
-
-row_fresh : (n a : ℕ) → repeated (range_with_len a n) ≡ false
-row_fresh zero a = refl
-row_fresh (suc n) a = ap₂ (λ p q. p || q) (not_before n (a + 1) a (omega arith)) (row_fresh n (a + 1))
-
-pub gapless_fresh : (v : Strided) → is_consecutive v ≡ true → repeats v ≡ false
-gapless_fresh v e = ap repeated (same_lists-true (elements v) (range_with_len v.start (positions v.lengths)) e) ∙ row_fresh (positions v.lengths) v.start

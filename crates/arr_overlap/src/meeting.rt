@@ -5,6 +5,7 @@ ghost use Rattle.arr_overlap.specs.Marks.{Marks};
 use crate::NoMemory;
 use crate::filters::decided;
 use crate::fronts::first_of_last;
+use crate::strides::told_by_strides;
 use arr_sets::Bits;
 use arr_view::{MOST_ELEMENTS, View, Walk};
 use std::alloc::Global;
@@ -49,8 +50,8 @@ pub(crate) fn marked(alloc: Global, view: &View) -> Result<Bits, NoMemory>
 pub fn repeats(alloc: Global, view: &View) -> Result<bool, NoMemory>
     ensures { IfOk result (λ r. r ≡ repeats view.now) }
 {
-    if view.is_gapless() {
-        return Ok(false);
+    if let Some(told) = told_by_strides(view) {
+        return Ok(told);
     }
     let mut bits = Bits::new(alloc, MOST_ELEMENTS)?;
     for element in Walk::new(view) {
