@@ -13,9 +13,9 @@ use Rattle.arr_elab.specs.declared.value.Array.{Array}
 use Rattle.arr_elab.specs.declared.step.Step.{Step}
 use Rattle.arr_elab.specs.State.{State, Checked, and_then, nothing_yet, fresh, step, live, most_live}
 use Rattle.arr_elab.specs.Expressions.{array}
-use Rattle.arr_elab.specs.Outcome.{IsReached, IsBegun, begin, prepared, statement, statements}
-use Rattle.arr_elab.specs.Recording.{Scene, opening}
-use Rattle.arr_elab.proofs.Keeping.{Keeps, keeps_nothing, keeps_begun}
+use Rattle.arr_elab.specs.Outcome.{IsReached, IsBegun, prepared, statement, statements}
+use Rattle.arr_elab.specs.Recording.{opening}
+use Rattle.arr_elab.proofs.Keeping.{keeps_nothing, keeps_begun}
 use Rattle.arr_elab.proofs.Sound.{array_sound}
 use Rattle.arr_elab.proofs.EachTree.{prepared_sound}
 use Rattle.arr_elab.proofs.EachStatement.{Leaves, statements_leave}

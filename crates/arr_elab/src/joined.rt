@@ -81,7 +81,7 @@ fn arrays(at: Place, code: Code, a: Array, b: Array) -> Result<Prepared, ElabFau
     if a.elem != b.elem {
         return Err(ElabFault::at(at, Kind::TypeMismatch));
     }
-    let shape = match ArrayShape::joint(&a.view, &b.view) {
+    let shape = match ArrayShape::of_both(&a.view, &b.view) {
         Ok(shape) => shape,
         Err(fault) => return Err(ruled(at, fault)),
     };

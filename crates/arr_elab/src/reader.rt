@@ -151,7 +151,7 @@ impl Reader {
     pub(crate) fn shape(&self, shape: &Lengths) -> Result<ArrayShape, ElabFault>
         ensures { Reads (spec.ruled shape.now.at (checked_shape shape.now.list) self.now) result self.now }
     {
-        match ArrayShape::checked(shape.list.as_slice()) {
+        match ArrayShape::of_lengths(shape.list.as_slice()) {
             Ok(lengths) => Ok(lengths),
             Err(fault) => Err(ruled(shape.at, fault)),
         }

@@ -56,23 +56,19 @@ impl ArrayShape {
     }
 
     /// The shape of these lengths.
-    pub(crate) fn checked(lengths: &[u64]) -> Result<ArrayShape, ShapeFault>
+    pub(crate) fn of_lengths(lengths: &[u64]) -> Result<ArrayShape, ShapeFault>
         ensures { result ≡ checked_shape lengths.now }
     {
-        match checked_shape(lengths) {
-            Ok(lengths) => Ok(ArrayShape { lengths }),
-            Err(fault) => Err(fault),
-        }
+        let lengths = checked_shape(lengths)?;
+        Ok(ArrayShape { lengths })
     }
 
     /// The shape to which two views can be spread.
-    pub(crate) fn joint(left: &View, right: &View) -> Result<ArrayShape, ShapeFault>
+    pub(crate) fn of_both(left: &View, right: &View) -> Result<ArrayShape, ShapeFault>
         ensures { result ≡ broadcast left.now.lengths right.now.lengths }
     {
-        match broadcast(left.shape(), right.shape()) {
-            Ok(lengths) => Ok(ArrayShape { lengths }),
-            Err(fault) => Err(fault),
-        }
+        let lengths = broadcast(left.shape(), right.shape())?;
+        Ok(ArrayShape { lengths })
     }
 
     /// The lengths, the first dimension's first.

@@ -1,4 +1,4 @@
-use Rattle.std.proofs.Common.{◌≡◌, ap, arith}
+use Rattle.std.proofs.Common.{ap, arith}
 use Rattle.arr_view.specs.Strided.{Strided}
 use Rattle.arr_elab.proofs.Reached.{fresh_there, step_keeps}
 use Rattle.arr_elab.proofs.gather.gather_arrays.Goals as goal
