@@ -1,5 +1,5 @@
 //! Classes of identical views, counted from 0 in the order of first sight.
-ghost use Rattle.std.specs.Prelude.{ℕ, ◌<◌, ◌≡◌, ◌≤◌, IfOk, OnOk, IsSome, None, length, map, position, get_or, take};
+ghost use Rattle.std.specs.Prelude.{ℕ, ◌<◌, ◌≡◌, ◌≤◌, IfOk, OnOk, IsSome, None, length, map, position, get_or, take, true};
 ghost use Rattle.arr_view.specs.Views.{identical, overlap};
 ghost use Rattle.arr_overlap.specs.Classes.{firsts, overlaps_among, view_at, AreMarks, AreOutlines};
 
@@ -75,7 +75,22 @@ fn mark(
     Ok(())
 }
 
-/// Whether the views at two places overlap; their elements are marked where the outlines don't tell.
+/// Whether the view at a place has marks, and the start of the view at another place is among them; the views have one base.
+fn has_start(views: &[View], marks: &[Option<Bits>], at: usize, other: usize) -> bool
+    requires at { at < length views.now }
+    requires other { other < length views.now }
+    requires base { (view_at views.now at).base ≡ (view_at views.now other).base }
+    requires marked { AreMarks marks.now views.now }
+    ensures { result ≡ true → overlap (view_at views.now at) (view_at views.now other) ≡ true }
+{
+    match &marks[at] {
+        Some(row) => row.has(views[other].start()),
+        None => false,
+    }
+}
+
+/// Whether the views at two places overlap. Where the outlines don't tell, the elements of the first are marked; where the start of the
+/// other is not among them, those of the other too.
 fn met(
     alloc: Global,
     views: &[View],
@@ -101,6 +116,9 @@ fn met(
         return Ok(false);
     }
     mark(alloc, views, marks, at)?;
+    if has_start(views, marks.as_slice(), at, other) {
+        return Ok(true);
+    }
     mark(alloc, views, marks, other)?;
     match (&marks[at], &marks[other]) {
         (Some(here), Some(there)) => Ok(here.meets(there)),
