@@ -37,12 +37,6 @@ abbrev pub row_lengths : ℕ → List ℕ → List ℤ → List ℕ
 row_lengths row (n ∷ ns) (s ∷ ss) = cond (divides row (unsigned_abs s)) 1 n ∷ row_lengths row ns ss
 row_lengths row _ _ = []
 
--- 1 for the last dimension
-abbrev pub one_last : List ℕ → List ℕ
-one_last [] = []
-one_last (n ∷ []) = 1 ∷ []
-one_last (n ∷ ns) = n ∷ one_last ns
-
 -- ---- what is known of a view
 
 pub record IsOutline (o : Outline) (v : Strided) : Type 0 where

@@ -1,7 +1,7 @@
 //! Parts of a view at the first indices of its dimensions.
-ghost use Rattle.std.specs.Prelude.{◌≡◌, ◌≤◌, IsTrue};
+ghost use Rattle.std.specs.Prelude.{◌≡◌, ◌≤◌, IsTrue, set};
 ghost use Rattle.arr_view.specs.Views.{is_view};
-ghost use Rattle.arr_overlap.specs.Filters.{fits_in, front_of, one_last, row_lengths};
+ghost use Rattle.arr_overlap.specs.Filters.{fits_in, front_of, row_lengths};
 
 use arr_view::View;
 use arrayvec::ArrayVec;
@@ -30,15 +30,14 @@ pub(crate) fn first_row(view: &View, row: u32) -> View
     front(view, lengths.as_slice())
 }
 
-/// The part of a view at index 0 of its last dimension.
-pub(crate) fn first_of_last(view: &View) -> View
-    ensures value { result ≡ front_of view.now (one_last view.now.lengths) }
+/// The part of a view at index 0 of one dimension, counted from 0.
+pub(crate) fn first_of_axis(view: &View, axis: usize) -> View
+    ensures value { result ≡ front_of view.now (set view.now.lengths axis 1) }
     ensures lawful { IsTrue (is_view view.now) }
 {
-    let rank = view.shape().len();
     let mut lengths = ArrayVec::<u32, 4>::new();
-    for (axis, length) in view.shape().iter().enumerate() {
-        lengths.push(if axis + 1 == rank { 1 } else { *length });
+    for (dimension, length) in view.shape().iter().enumerate() {
+        lengths.push(if dimension == axis { 1 } else { *length });
     }
     front(view, lengths.as_slice())
 }

@@ -5,7 +5,7 @@
 //! columns; where those don't decide, the elements of one view are marked in a row of bits and the other is walked once. `repeats` asks
 //! the strides first: a dimension that stays at one element repeats it, and nothing repeats where each dimension steps over all smaller
 //! steps, as in every slice, row turned round or transposed view of a whole base; what is left is walked once, over such marks. Both
-//! answer want of memory where the row can't be had. A view whose last stride is 1 is marked by runs, words at a time.
+//! answer want of memory where the row can't be had. A view with a stride of 1 is marked by runs, words at a time.
 //!
 //! `Classes` numbers the classes of identical views by first sight and knows of each two of them whether they overlap; only making it
 //! takes memory. Each pair is decided once, and a view is marked only where a pair of which it is one is decided by marks.

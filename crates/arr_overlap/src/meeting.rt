@@ -1,10 +1,10 @@
-ghost use Rattle.std.specs.Prelude.{◌≡◌, ◌-◌, IfOk, get_or, length, pos};
+ghost use Rattle.std.specs.Prelude.{◌≡◌, ◌<◌, IfOk, get_or, length, pos};
 ghost use Rattle.arr_view.specs.Views.{elements, overlap, repeats};
 ghost use Rattle.arr_overlap.specs.Marks.{Marks};
 
 use crate::NoMemory;
 use crate::filters::decided;
-use crate::fronts::first_of_last;
+use crate::fronts::first_of_axis;
 use crate::strides::told_by_strides;
 use arr_sets::Bits;
 use arr_view::{MOST_ELEMENTS, View, Walk};
@@ -22,14 +22,15 @@ fn marked_singly(alloc: Global, view: &View) -> Result<Bits, NoMemory>
     Ok(bits)
 }
 
-/// The elements of a view of which the last stride is 1, marked in a row of bits by runs along its last dimension, of so many elements.
-fn marked_in_runs(alloc: Global, view: &View, run: u32) -> Result<Bits, NoMemory>
-    requires run { run ≡ get_or view.now.lengths (length view.now.lengths - 1) 0 }
-    requires stride { get_or view.now.strides (length view.now.strides - 1) (pos 0) ≡ pos 1 }
+/// The elements of a view, marked in a row of bits by runs along a dimension of stride 1, counted from 0.
+fn marked_in_runs(alloc: Global, view: &View, axis: usize) -> Result<Bits, NoMemory>
+    requires axis { axis < length view.now.lengths }
+    requires stride { get_or view.now.strides axis (pos 0) ≡ pos 1 }
     ensures { IfOk result (λ bits. Marks bits (elements view.now)) }
 {
+    let run = view.shape()[axis];
     let mut bits = Bits::new(alloc, MOST_ELEMENTS)?;
-    for first in Walk::new(&first_of_last(view)) {
+    for first in Walk::new(&first_of_axis(view, axis)) {
         bits.insert_run(first, run);
     }
     Ok(bits)
@@ -39,9 +40,10 @@ fn marked_in_runs(alloc: Global, view: &View, run: u32) -> Result<Bits, NoMemory
 pub(crate) fn marked(alloc: Global, view: &View) -> Result<Bits, NoMemory>
     ensures { IfOk result (λ bits. Marks bits (elements view.now)) }
 {
-    let last = view.shape().len() - 1;
-    if view.strides()[last] == 1 {
-        return marked_in_runs(alloc, view, view.shape()[last]);
+    for (axis, stride) in view.strides().iter().enumerate() {
+        if *stride == 1 {
+            return marked_in_runs(alloc, view, axis);
+        }
     }
     marked_singly(alloc, view)
 }
