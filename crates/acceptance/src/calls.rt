@@ -52,10 +52,22 @@ fn a_script_is_recorded_and_rewritten(rt: HostRuntime) -> Result<(), Fail> {
     assert_eq!(rt; lists.len(), 1);
     let list = lists[0].ops();
     assert!(rt; list_formed(list));
-    let recorded = [Code::Range, Code::Add, Code::Add, Code::Free, Code::Sync, Code::Free, Code::Free];
+    let recorded = [
+        Code::Range,
+        Code::Add,
+        Code::Add,
+        Code::Free,
+        Code::Sync,
+        Code::Free,
+        Code::Free,
+    ];
     have_codes(&rt, list, &recorded);
     let short = rewrite(alloc, list)?;
-    have_codes(&rt, short.as_slice(), &[Code::Range, Code::Add, Code::Sync, Code::Free, Code::Free]);
+    have_codes(
+        &rt,
+        short.as_slice(),
+        &[Code::Range, Code::Add, Code::Sync, Code::Free, Code::Free],
+    );
     let slots = Slots::for_list(alloc, list)?;
     drop(slots);
     Ok(())
