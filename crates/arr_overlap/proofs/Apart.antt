@@ -2,7 +2,7 @@
 use Rattle.std.proofs.Common.{◌⊎◌, inl, inr, ◌<◌, ◌≡◌, ℕ, ◌≤◌, List, [], ◌∷◌, Bool, true, false, length, refl, ap, ap₂, sym, ◌∙◌, pos, arith}
 use Rattle.std.specs.Prelude.{nat_le, ◌==◌, ◌&&◌, ◌||◌, Option, Some, None}
 use Rattle.std.specs.List.{list_all}
-use Rattle.std.proofs.lemmas.Bool.{leb-true, and_parts, and_left, eqb-true, eq-eqb, false_from_ne_true}
+use Rattle.std.proofs.lemmas.Bool.{leb-true, and_parts, eqb-true, eq-eqb, false_from_ne_true}
 use Rattle.std.proofs.lemmas.List.{length-map}
 use Rattle.arr_view.specs.Strided.{Strided}
 use Rattle.arr_view.specs.Views.{elements, has, identical, is_view, lies, overlap, places, positions, same_lists, share, to_place}
@@ -19,9 +19,6 @@ apart p q (x ∷ xs) ys a b never =
     let parts = and_parts (p x) (list_all p xs) a in
     let here : has ys x ≡ false = false_from_ne_true (has ys x) (λ h. never x parts.0 (passes q ys x b h)) in
     ap₂ (λ c d. c || d) here (apart p q xs ys parts.1 b never)
-
-pub bases_differ : (v w : Strided) → (v.base == w.base) ≡ false → overlap v w ≡ false
-bases_differ v w e = and_left (v.base == w.base) _ e
 
 -- a list with an element shares it with itself
 shares_itself : (xs : List ℕ) → 1 ≤ length xs → share xs xs ≡ true

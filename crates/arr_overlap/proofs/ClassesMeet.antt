@@ -1,9 +1,9 @@
 -- Which classes overlap.
-use Rattle.std.proofs.Common.{◌≡◌, ℕ, zero, suc, ◌+◌, ◌<◌, ◌≤◌, List, [], ◌∷◌, ◌++◌, Bool, true, false, length, take, map, set, get_or, pos, replicate, refl, ap, ap₂, sym, subst, ◌∙◌, arith, rules}
-use Rattle.std.specs.Prelude.{◌&&◌, ◌||◌, ◌==◌, nat_lt, Option, Some, None, IsSome}
+use Rattle.std.proofs.Common.{◌≡◌, ℕ, zero, suc, ◌+◌, ◌<◌, ◌≤◌, List, [], ◌∷◌, ◌++◌, Bool, true, false, length, take, map, set, get_or, pos, replicate, refl, ap, ap₂, sym, subst, ◌∙◌, arith}
+use Rattle.std.specs.Prelude.{◌&&◌, ◌||◌, ◌==◌, nat_lt, Option, Some, None}
 use Rattle.std.specs.List.{list_all}
 use Rattle.std.proofs.lemmas.Bool.{and_parts, and_from, eqb-true, eqb-false, eq-eqb, ltb-true, ltb-false, false≢true}
-use Rattle.std.proofs.lemmas.List.{get_or-take, length-take-le, get_or-set_same, get_or-set_other, length-set, length-append, length-replicate, take_all, take_more}
+use Rattle.std.proofs.lemmas.List.{get_or-take, length-take-le, get_or-set_same, get_or-set_other, length-set, length-append}
 use Rattle.arr_sets.specs.Bits.{meets}
 use Rattle.arr_view.specs.Strided.{Strided}
 use Rattle.arr_view.specs.Views.{elements, has, is_view, overlap, share, most_elements, to_place}
@@ -24,9 +24,6 @@ record Common (test other : ℕ → Bool) : Type 0 where
   at : ℕ
   here : test at ≡ true
   there : other at ≡ true
-
-is_in : List Bool → ℕ → Bool
-is_in bits i = get_or bits i false
 
 or_cases : (a b : Bool) (P : Type 0) → (a || b) ≡ true → (a ≡ true → P) → (b ≡ true → P) → P
 or_cases true b P e f g = f refl
@@ -112,9 +109,6 @@ next_too P n below here i h =
       | false ↦ λ e. let le : n ≤ i = ltb-false i n e in subst P (let same : n ≡ i = omega arith in same) here
     ] refl
 
-pub no_outline_yet : (views : List Strided) (outlines : List Outline) → outlines ≡ [] → AreOutlines 0 outlines views
-no_outline_yet views outlines e = record { long = ap length e; each = λ i h. absurd (omega arith) }
-
 pub one_more_outline : (views : List Strided) (outlines : List Outline) (i : ℕ) (v : Strided) (o : Outline) → view_at views i ≡ v → IsOutline o v → AreOutlines i outlines views
     → AreOutlines (i + 1) (outlines ++ o ∷ []) views
 one_more_outline views outlines i v o here is known =
@@ -126,18 +120,9 @@ one_more_outline views outlines i v o here is known =
           (λ d. subst (λ x. IsOutline x (view_at views i)) (sym (ap (λ n. get_or (outlines ++ o ∷ []) n d) (sym long) ∙ at_end outlines o d)) (subst (IsOutline o) (sym here) is));
     }
 
-pub outline_there : (views : List Strided) (outlines : List Outline) (n i : ℕ) (o : Outline) (v : Strided) → AreOutlines n outlines views → i < n → o ≡ get_or outlines i o → view_at views i ≡ v → IsOutline o v
-outline_there views outlines n i o v known h e here = subst (IsOutline o) here (subst (λ x. IsOutline x (view_at views i)) (sym e) (known.each i h o))
-
 -- no view is marked
 pub none_marked : (marks : List (Option (List Bool))) (views : List Strided) → length marks ≡ length views → ((i : ℕ) → get_or marks i None ≡ None) → AreMarks marks views
 none_marked marks views long none = record { long = long; each = λ i h row e. absurd (let f : None ≡ Some row = sym (none i) ∙ e in cc) }
-
-pub none_more : (marks : List (Option (List Bool))) → ((i : ℕ) → get_or marks i None ≡ None) → (i : ℕ) → get_or (marks ++ None ∷ []) i None ≡ None
-none_more [] none zero = refl
-none_more [] none (suc i) = refl
-none_more (m ∷ marks) none zero = none 0
-none_more (m ∷ marks) none (suc i) = none_more marks (λ k. none (suc k)) i
 
 pub marks_more : (marks : List (Option (List Bool))) (views : List Strided) (at : ℕ) (row : List Bool) → AreMarks marks views → at < length views → Marks row (elements (view_at views at)) → AreMarks (set marks at (Some row)) views
 marks_more marks views at row known h m =
@@ -155,16 +140,6 @@ marks_more marks views at row known h m =
           ] refl;
     }
 
-pub some_there : (marks : List (Option (List Bool))) (at : ℕ) (row : List Bool) → at < length marks → IsSome (get_or (set marks at (Some row)) at None)
-some_there marks at row h = subst IsSome (sym (get_or-set_same marks at (Some row) None h)) (search rules)
-
-pub some_others : (marks : List (Option (List Bool))) (at : ℕ) (row : List Bool) → at < length marks → (i : ℕ) → IsSome (get_or marks i None) → IsSome (get_or (set marks at (Some row)) i None)
-some_others marks at row h i s =
-    elim (i == at) as (λ b. (i == at) ≡ b → IsSome (get_or (set marks at (Some row)) i None)) [
-      | true ↦ λ f. subst (λ k. IsSome (get_or (set marks at (Some row)) k None)) (let z : at ≡ i = sym (eqb-true i at f) in z) (some_there marks at row h)
-      | false ↦ λ f. subst IsSome (sym (get_or-set_other marks at i (Some row) None (λ z. let z' : i ≡ at = z in eqb-false i at f z'))) s
-    ] refl
-
 -- ---- one row
 
 -- the row says of the first so many views which of them v overlaps, and has no other number
@@ -172,18 +147,6 @@ pub record Row (v : Strided) (views : List Strided) (i : ℕ) (row : List Bool) 
   pub long : length row ≡ length views
   pub done : (k : ℕ) → k < i → get_or row k false ≡ overlap v (view_at views k)
   pub rest : (k : ℕ) → i ≤ k → get_or row k false ≡ false
-
-no_bit : (n k : ℕ) → get_or (replicate n false) k false ≡ false
-no_bit zero k = refl
-no_bit (suc n) zero = refl
-no_bit (suc n) (suc k) = no_bit n k
-
-pub no_row_yet : (v : Strided) (views : List Strided) (row : List Bool) → row ≡ replicate (length views) false → Row v views 0 row
-no_row_yet v views row e = record {
-  long = ap length e ∙ length-replicate (length views) false;
-  done = λ k h. absurd (omega arith);
-  rest = λ k h. ap (λ r. get_or r k false) e ∙ no_bit (length views) k;
-}
 
 pub row_met : (v : Strided) (views : List Strided) (i : ℕ) (row : List Bool) → i < length views → overlap v (view_at views i) ≡ true → Row v views i row → Row v views (i + 1) (set row i true)
 row_met v views i row inside met known =
@@ -251,10 +214,6 @@ start_decides views marks i j row known li law same e marked =
     let held : has (elements v) w.start ≡ true = sym ((known.each i li row e).each w.start (start_within w law)) ∙ marked in
     ap₂ (λ x y. x && y) (eq-eqb v.base w.base same) (at_shared (elements v) (elements w) w.start held (start_among w law))
 
-pub rows_long : (views : List Strided) (marks : List (Option (List Bool))) (i j : ℕ) (row other : List Bool) → AreMarks marks views → i < length views → j < length views
-    → get_or marks i None ≡ Some row → get_or marks j None ≡ Some other → length row ≡ length other
-rows_long views marks i j row other known li lj e f = (known.each i li row e).long ∙ sym (known.each j lj other f).long
-
 share_turned : (es fs : List ℕ) → share es fs ≡ share fs es
 share_turned es fs =
     same_tests (share es fs) (share fs es) (λ e. let r = shared_at es fs e in at_shared fs es r.at r.there r.here) (λ e. let r = shared_at fs es e in at_shared es fs r.at r.there r.here)
@@ -264,20 +223,6 @@ overlap_turned v w =
     ap₂ (λ x y. x && y) (same_tests (v.base == w.base) (w.base == v.base) (λ e. eq-eqb w.base v.base (sym (eqb-true v.base w.base e))) (λ e. eq-eqb v.base w.base (sym (eqb-true w.base v.base e)))) (share_turned (elements v) (elements w))
 
 -- ---- all rows
-
-map_end : {A B : Type 0} (f : A → B) (xs : List A) (x : A) → map f (xs ++ x ∷ []) ≡ map f xs ++ f x ∷ []
-map_end f [] x = refl
-map_end f (y ∷ xs) x = ap (λ r. f y ∷ r) (map_end f xs x)
-
-pub one_more_row : (views : List Strided) (rows : List (List Bool)) (i : ℕ) (row : List Bool) → i < length views
-    → rows ≡ map (λ v. map (overlap v) views) (take i views) → row ≡ map (overlap (view_at views i)) views
-    → rows ++ row ∷ [] ≡ map (λ v. map (overlap v) views) (take (i + 1) views)
-one_more_row views rows i row inside known e =
-    ap₂ (λ rs r. rs ++ r ∷ []) known e ∙ sym (map_end (λ v. map (overlap v) views) (take i views) (view_at views i))
-    ∙ ap (map (λ v. map (overlap v) views)) (sym (take_more views i _ inside))
-
-pub all_rows : (views : List Strided) (rows : List (List Bool)) (i : ℕ) → length views ≤ i → rows ≡ map (λ v. map (overlap v) views) (take i views) → rows ≡ overlaps_among views
-all_rows views rows i end known = known ∙ ap (map (λ v. map (overlap v) views)) (take_all i views end)
 
 map_at : {A B : Type 0} (f : A → B) (xs : List A) (i : ℕ) (d : A) (e : B) → i < length xs → get_or (map f xs) i e ≡ f (get_or xs i d)
 map_at f [] i d e h = absurd (omega arith)

@@ -87,9 +87,6 @@ fresh_more (y ∷ ys) x f h =
     let b = neither (x == y) (has ys x) h in
     ap₂ (λ p q. p || q) (has_more ys x y ∙ ap₂ (λ p q. p || q) a.0 (symmetric x y b.0)) (fresh_more ys x a.1 b.1)
 
-has_front : (xs rest : List ℕ) (y : ℕ) → has xs y ≡ true → has (xs ++ rest) y ≡ true
-has_front xs rest y h = list_any-append (nat_eq y) xs rest ∙ ap (λ b. b || has rest y) h
-
 has_here : (xs rest : List ℕ) (x : ℕ) → has (xs ++ x ∷ rest) x ≡ true
 has_here xs rest x = list_any-append (nat_eq x) xs (x ∷ rest) ∙ ap (λ b. has xs x || (b || has rest x)) (eq-eqb x x refl) ∙ or_true (has xs x)
 

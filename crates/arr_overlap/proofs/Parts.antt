@@ -2,7 +2,7 @@
 use Rattle.std.proofs.Common.{◌≡◌, ℕ, zero, suc, ℤ, pos, List, [], ◌∷◌, Bool, true, false, map, refl, ap, ap₂, sym, ◌∙◌, subst, arith}
 use Rattle.std.specs.Prelude.{◌&&◌, ◌==◌, not, ◌||◌, nat_le}
 use Rattle.std.specs.List.{list_all}
-use Rattle.std.proofs.lemmas.Bool.{lt-leb, and_left, and_parts, and_from, eqb-true, eq-eqb, ne_eqb, false≢true}
+use Rattle.std.proofs.lemmas.Bool.{lt-leb, and_parts, and_from, eqb-true, eq-eqb, false≢true}
 use Rattle.std.specs.Cmp.Lexicographic.{pointwise, same_text}
 use Rattle.std.specs.Cmp.Rules.{signed_items}
 use Rattle.std.specs.Ordering.{int_eq}
@@ -121,6 +121,3 @@ alike_parts v w e =
 
 pub parts_said : (v w : Strided) → is_view v ≡ true → is_view w ≡ true → alike v w ≡ same_parts v w
 parts_said v w lv lw = same_tests (alike v w) (same_parts v w) (alike_parts v w) (parts_alike v w lv lw)
-
-pub other_base : (v w : Strided) → (v.base ≡ w.base → ⊥) → (identical v w ≡ false) × (same_parts v w ≡ false)
-other_base v w h = let e : (v.base == w.base) ≡ false = ne_eqb v.base w.base h in (and_left (v.base == w.base) _ e, and_left (v.base == w.base) _ e)
