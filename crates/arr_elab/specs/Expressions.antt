@@ -9,6 +9,7 @@ use Rattle.arr_num.specs.Numbers.{in_type, wrap}
 use Rattle.arr_num.specs.Kinds.{is_reduction}
 use Rattle.arr_num.specs.Types.{same_elem}
 use Rattle.arr_view.specs.Strided.{Strided}
+use Rattle.arr_view.specs.Views.{most_elements}
 use Rattle.arr_ops.specs.declared.op.Op.{Op}
 use Rattle.arr_ops.specs.declared.op.Operand.{Operand}
 use Rattle.arr_ops.specs.declared.op.Operand.TheVariants as operand
@@ -149,7 +150,7 @@ fold at sign of axis axis_at = do
 abbrev pub range : Place → ℕ → Place → Type4 → Reading Prepared
 range at count count_at to = do
   require (not (count == 0)) count_at EmptyArray
-  require (not (nat_lt 1048576 count)) count_at TooManyElements
+  require (not (nat_lt most_elements count)) count_at TooManyElements
   pending at (count ∷ []) (operation code.Range (elem_of to) (elem_of to) None None None)
 
 abbrev pub filled : Place → List ℕ → Elem → Value → Reading Prepared

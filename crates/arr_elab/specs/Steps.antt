@@ -5,6 +5,8 @@ use Rattle.std.specs.Option.{option_to_list}
 use Rattle.arr_num.specs.declared.code.Code.{Code}
 use Rattle.arr_num.specs.declared.code.Code.TheVariants.{Sync}
 use Rattle.arr_ops.specs.declared.op.Op.{Op}
+use Rattle.arr_ops.specs.Ops.{at_slot}
+use Rattle.arr_ops.specs.Formed.{slot_numbers}
 use Rattle.arr_ops.specs.Memory.{Memory, Slot, step, eager, empty}
 use Rattle.arr_ops.specs.Gathers.{gathered, scattered}
 use Rattle.arr_elab.specs.declared.step.Step.{Step}
@@ -22,17 +24,13 @@ abbrev pub filled_after : ℕ → Code → ℕ
 filled_after n Sync = suc n
 filled_after n _ = n
 
-abbrev pub with_slot : Op → Option ℕ → Op
-with_slot op slot =
-    record { code = op.code; to = op.to; from = op.from; out = op.out; first = op.first; second = op.second; axis = op.axis; slot = slot; frees = op.frees; makes = op.makes }
-
 -- the contents of the slots from 1 to a number
 abbrev pub slots_to : ℕ → Memory → List Slot
 slots_to count m = flat_map (λ s. option_to_list (m.slots s)) (range_with_len 1 count)
 
 -- how many slots operations fill
 abbrev pub slot_count : List Op → ℕ
-slot_count ops = length (flat_map (λ (op : Op). option_to_list op.slot) ops)
+slot_count ops = length (slot_numbers ops)
 
 -- what a list prints
 abbrev pub printed : Memory → List Op → List Slot
@@ -50,7 +48,7 @@ not_begun = record { memory = empty; filled = 0 }
 
 -- each step runs as it is reached
 abbrev pub run_step : Progress → Step → Progress
-run_step p (Act op) = record { memory = step p.memory (with_slot op (slot_from (suc p.filled) op.code)); filled = filled_after p.filled op.code }
+run_step p (Act op) = record { memory = step p.memory (at_slot op (slot_from (suc p.filled) op.code)); filled = filled_after p.filled op.code }
 run_step p (Gather g) = record { memory = gathered p.memory g; filled = p.filled }
 run_step p (Scatter g) = record { memory = scattered p.memory g; filled = p.filled }
 run_step p _ = p

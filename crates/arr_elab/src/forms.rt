@@ -21,11 +21,8 @@ use arr_num::Code;
 use arr_overlap::NoMemory;
 use arr_shape::{Slice, checked_axis, reshape, slice, spread, strided, transpose};
 use arr_syntax::{Code16, Cut, Expr, ExprForm, Kind, Lengths, Place, Steps, Type4};
-use arr_view::View;
+use arr_view::{MOST_ELEMENTS, View};
 use std::alloc::Global;
-
-/// The most elements of an array.
-const MOST_ELEMENTS: u64 = 1_048_576;
 
 /// The array of a value where no literal may stand.
 pub(crate) fn array_of(value: Value) -> Result<Array, ElabFault>
@@ -159,7 +156,7 @@ fn range(at: Place, count: u64, count_at: Place, to: Type4) -> Result<Prepared, 
     if count == 0 {
         return Err(ElabFault::at(count_at, Kind::EmptyArray));
     }
-    if count > MOST_ELEMENTS {
+    if count > u64::from(MOST_ELEMENTS) {
         return Err(ElabFault::at(count_at, Kind::TooManyElements));
     }
     let shape = ArrayShape::line(count as u32);

@@ -2,7 +2,7 @@
 use Rattle.std.proofs.Common.{◌≡◌, ℕ, ◌+◌, ◌<◌, ◌≤◌, suc, List, [], ◌∷◌, ◌++◌, Bool, true, false, not, ◌||◌, ◌&&◌, ◌⊎◌, inl, inr, ⊎_elim, refl, ap, ap₂, sym, subst, ◌∙◌, arith, length, length-append, append_assoc, append-nil, map, Option, Some, None}
 use Rattle.std.proofs.lemmas.Bool.{false≢true, eqb-true, eq-eqb}
 use Rattle.std.specs.Prelude.{◌==◌, nat_eq}
-use Rattle.std.specs.List.{AllByRecursion, list_any, filter, flat_map, range_with_len}
+use Rattle.std.specs.List.{AllByRecursion, list_any, filter, range_with_len}
 use Rattle.std.specs.Option.{option_to_list}
 use Rattle.arr_num.specs.declared.elem.Elem.{Elem}
 use Rattle.arr_view.specs.Strided.{Strided}
@@ -24,7 +24,7 @@ use Rattle.arr_ops.specs.Gathers.{is_gather, is_scatter}
 use Rattle.arr_record.specs.declared.part.Part.{Part}
 use Rattle.arr_record.specs.declared.part.Part.TheVariants.{Flush, Gather, Scatter}
 use Rattle.arr_record.specs.Runs.{after_part, after_parts, printed_parts, each_fits}
-use Rattle.arr_record.proofs.Runs.{eager_append, after_parts_more, printed_parts_more, each_fits_more, printed_more, slot_cases, slot_count_more, range_more, shown_at, content}
+use Rattle.arr_record.proofs.Runs.{eager_append, after_parts_more, printed_parts_more, each_fits_more, printed_more, slot_cases, slot_numbers_more, slot_count_more, range_more, shown_at, content}
 use Rattle.arr_record.proofs.Home.{Home, place_of, place_more, below_all, home_more, formed_if}
 use Rattle.arr_record.proofs.Cells.{Stored, stored_step, absent_step}
 use Rattle.arr_record.proofs.Joined.{Allowed, precedes, pairs_more, fits_more, last_fits, creates_more, creates_last}
@@ -68,14 +68,6 @@ pub record Kept (bases : List (ℕ × Elem)) (live : ℕ → Bool) (past : Progr
   pub prints : printed_parts empty parts ++ printed (start_of parts) waiting ≡ shown past
 
 -- ---- slots
-
-slot_list : (ops : List Op) → slot_numbers ops ≡ flat_map (λ (op : Op). option_to_list op.slot) ops
-slot_list [] = refl
-slot_list (op ∷ ops) = ap (λ ss. option_to_list op.slot ++ ss) (slot_list ops)
-
-slot_numbers_more : (ops : List Op) (op : Op) → slot_numbers (ops ++ op ∷ []) ≡ slot_numbers ops ++ option_to_list op.slot
-slot_numbers_more [] op = append-nil (option_to_list op.slot)
-slot_numbers_more (f ∷ ops) op = ap (λ ss. option_to_list f.slot ++ ss) (slot_numbers_more ops op) ∙ sym (append_assoc (option_to_list f.slot) (slot_numbers ops) (option_to_list op.slot))
 
 slots_joined : (ops : List Op) (op : Op) → op.slot ≡ slot_from (suc (slot_count ops)) op.code → slot_numbers ops ≡ range_with_len 1 (slot_count ops)
     → slot_numbers (ops ++ op ∷ []) ≡ range_with_len 1 (slot_count (ops ++ op ∷ []))
@@ -251,7 +243,7 @@ kept_cut bases live past parts waiting some k =
     record {
       lawful = all_append LawfulPart parts (Flush waiting ∷ []) k.lawful (
         record {
-          formed = formed_if bases waiting k.home (k.slots ∙ ap (range_with_len 1) (sym (ap length (slot_list waiting)))) k.order;
+          formed = formed_if bases waiting k.home k.slots k.order;
           some = some;
           few = k.few;
         },

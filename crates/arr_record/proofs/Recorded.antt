@@ -12,15 +12,14 @@ use Rattle.arr_num.specs.declared.code.Code.TheVariants.{Sync}
 use Rattle.arr_view.specs.Strided.{Strided}
 use Rattle.arr_view.specs.Views.{elements, positions}
 use Rattle.arr_ops.specs.declared.op.Op.{Op}
-use Rattle.arr_ops.specs.Ops.{outputs, inputs, freed, views}
-use Rattle.arr_ops.specs.Formed.{well_formed, is_whole, kind_kept, writes_once, makes_whole, same_elem, typed}
-use Rattle.arr_ops.specs.Formed as lone
+use Rattle.arr_ops.specs.Ops.{at_slot, outputs, inputs, freed, views}
+use Rattle.arr_ops.specs.Formed.{with_slot, well_formed, is_whole, kind_kept, writes_once, makes_whole, same_elem}
 use Rattle.arr_view.specs.Views.{is_view}
 use Rattle.arr_ops.proofs.Pairs.{All_weaker}
 use Rattle.arr_ops.proofs.Tests.{both_left, both_right, all_of, same_from_test}
 use Rattle.arr_ops.proofs.Spots.{none_from, same_elem_is}
 use Rattle.arr_ops.proofs.FitsLaw.{all_append, all_map}
-use Rattle.arr_elab.specs.Steps.{with_slot, slot_from}
+use Rattle.arr_elab.specs.Steps.{slot_from}
 use Rattle.arr_elab.specs.Recording.{Scene, is_live, stands, may_act, made_by}
 use Rattle.arr_record.proofs.Home.{Home, place_of, place_more, TypedAmong, InsideAmong, WholeAmong}
 use Rattle.arr_record.proofs.Joined.{Allowed}
@@ -29,17 +28,15 @@ use Rattle.arr_record.proofs.Joined.{Allowed}
 
 module _ (op : Op) where
   abbrev bare_at : Code → Op
-  bare_at code =
-      record { code = code; to = op.to; from = op.from; out = op.out; first = op.first; second = op.second; axis = op.axis; slot = None; frees = op.frees; makes = op.makes }
+  bare_at code = record op { code = code; slot = None }
 
-  slot_any : (code : Code) (next : ℕ) → well_formed (lone.with_slot (bare_at code)) ≡ true → well_formed (with_slot (bare_at code) (slot_from next code)) ≡ true
+  slot_any : (code : Code) (next : ℕ) → well_formed (with_slot (bare_at code)) ≡ true → well_formed (at_slot (bare_at code) (slot_from next code)) ≡ true
   slot_any Sync next h = h
   slot_any _ next h = h
 
-  pub well_with_slot : (next : ℕ) → op.slot ≡ None → well_formed (lone.with_slot op) ≡ true → well_formed (with_slot op (slot_from next op.code)) ≡ true
+  pub well_with_slot : (next : ℕ) → op.slot ≡ None → well_formed (with_slot op) ≡ true → well_formed (at_slot op (slot_from next op.code)) ≡ true
   well_with_slot next e h =
-      slot_any op.code next (subst (λ s. well_formed (lone.with_slot
-      (record { code = op.code; to = op.to; from = op.from; out = op.out; first = op.first; second = op.second; axis = op.axis; slot = s; frees = op.frees; makes = op.makes })) ≡ true) e h)
+      slot_any op.code next (subst (λ s. well_formed (with_slot (at_slot op s)) ≡ true) e h)
 
 -- ---- a view that stands
 
@@ -140,18 +137,18 @@ pub record Recorded (scene : Scene) (live : ℕ → Bool) (op : Op) (g : Op) : T
   pub no_free : op.frees ≡ None
 
 pub recorded : (scene : Scene) (live : ℕ → Bool) (op : Op) (next : ℕ) → ((b : ℕ) → is_live scene b ≡ true → live b ≡ true) → may_act scene op ≡ true
-    → Recorded scene live op (with_slot op (slot_from next op.code))
+    → Recorded scene live op (at_slot op (slot_from next op.code))
 recorded scene live op next lives h =
     let bases : List (ℕ × Elem) = scene.bases ++ made_by op in
     let no_slot : op.slot ≡ None = none_from op.slot (both_left (is_none op.slot) _ h) in
     let a = both_right (is_none op.slot) _ h in
     let no_free : op.frees ≡ None = none_from op.frees (both_left (is_none op.frees) _ a) in
     let b = both_right (is_none op.frees) _ a in
-    let well : well_formed (lone.with_slot op) ≡ true = both_left (well_formed (lone.with_slot op)) _ b in
-    let c = both_right (well_formed (lone.with_slot op)) _ b in
+    let well : well_formed (with_slot op) ≡ true = both_left (well_formed (with_slot op)) _ b in
+    let c = both_right (well_formed (with_slot op)) _ b in
     let reads : AllByRecursion (Standing scene op.from) (inputs op) = standing_all scene op.from (inputs op) (both_left (list_all (stands scene op.from) (inputs op)) _ c) in
     let whole : makes_whole op ≡ true =
-    both_right (writes_once op) _ (both_right (list_all is_view (views op)) _ (both_right (kind_kept (lone.with_slot op)) _ well)) in
+    both_right (writes_once op) _ (both_right (list_all is_view (views op)) _ (both_right (kind_kept (with_slot op)) _ well)) in
     let out : Target scene op.to op.out op.makes = target scene op.to (inputs op) op.out op.makes (both_right (list_all (stands scene op.from) (inputs op)) _ c) whole in
     let ins : AllByRecursion (Placed bases op.from) (inputs op) = All_weaker (Standing scene op.from) (Placed bases op.from) (λ v s. placed scene (made_by op) op.from v s) (inputs op) reads in
     record {

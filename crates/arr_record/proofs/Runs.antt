@@ -2,15 +2,18 @@
 use Rattle.std.proofs.Common.{◌≡◌, ◌≢◌, ℕ, ◌+◌, ◌<◌, ◌≤◌, zero, suc, List, [], ◌∷◌, ◌++◌, true, ◌&&◌, ◌⊎◌, inl, inr, ⊎_elim, refl, ap, ap₂, sym, ◌∙◌, arith, Option, Some, None, length, length-append, append_assoc, append-nil, cond}
 use Rattle.std.proofs.lemmas.Bool.{ne_eqb, eq-eqb}
 use Rattle.std.proofs.lemmas.Grind.{flat_map-append}
+use Rattle.std.specs.Prelude.{unwrap_or}
 use Rattle.std.specs.List.{flat_map, range_with_len}
 use Rattle.std.specs.Option.{option_to_list}
 use Rattle.arr_num.specs.declared.code.Code.{Code}
 use Rattle.arr_num.specs.declared.code.Code.TheVariants.{Sync}
 use Rattle.arr_ops.specs.declared.op.Op.{Op}
+use Rattle.arr_ops.specs.Ops.{at_slot}
+use Rattle.arr_ops.specs.Formed.{slot_numbers}
 use Rattle.arr_ops.specs.Memory.{Memory, Slot, eager, step, computed, lengths_of, slot_after}
 use Rattle.arr_ops.proofs.Tests.{both_left, both_right}
 use Rattle.arr_elab.specs.declared.step.Step.TheVariants.{Act}
-use Rattle.arr_elab.specs.Steps.{Progress, run_step, shown, printed, slot_count, slots_to, slot_from, filled_after, with_slot}
+use Rattle.arr_elab.specs.Steps.{Progress, run_step, shown, printed, slot_count, slots_to, slot_from, filled_after}
 use Rattle.arr_record.specs.declared.part.Part.{Part}
 use Rattle.arr_record.specs.Runs.{after_part, after_parts, printed_part, printed_parts, part_fits, each_fits}
 
@@ -41,10 +44,22 @@ pub slot_cases : (n : ℕ) (code : Code) → ((slot_from (suc n) code ≡ None) 
 slot_cases n Sync = inr (refl, refl)
 slot_cases n _ = inl (refl, refl)
 
+pub slot_numbers_more : (ops : List Op) (op : Op) → slot_numbers (ops ++ op ∷ []) ≡ slot_numbers ops ++ option_to_list op.slot
+slot_numbers_more [] op = append-nil (option_to_list op.slot)
+slot_numbers_more (f ∷ ops) op = ap (λ ss. option_to_list f.slot ++ ss) (slot_numbers_more ops op) ∙ sym (append_assoc (option_to_list f.slot) (slot_numbers ops) (option_to_list op.slot))
+
 pub slot_count_more : (ops : List Op) (op : Op) → slot_count (ops ++ op ∷ []) ≡ slot_count ops + length (option_to_list op.slot)
-slot_count_more ops op =
-    let slots : Op → List ℕ = λ (f : Op). option_to_list f.slot in
-    ap length (flat_map-append slots ops (op ∷ []) ∙ ap (λ xs. flat_map slots ops ++ xs) (append-nil (option_to_list op.slot))) ∙ length-append (flat_map slots ops) (option_to_list op.slot)
+slot_count_more ops op = ap length (slot_numbers_more ops op) ∙ length-append (slot_numbers ops) (option_to_list op.slot)
+
+-- the last slot of a list is that of its last operation, if this has one
+pub slot_last : (ops : List Op) (op : Op) → op.slot ≡ slot_from (suc (slot_count ops)) op.code → slot_count (ops ++ op ∷ []) ≡ unwrap_or op.slot (slot_count ops)
+slot_last ops op e =
+    let n : ℕ = slot_count ops in
+    slot_count_more ops op
+    ∙ ⊎_elim
+    (λ h. let none : op.slot ≡ None = e ∙ h.0 in ap (λ s. n + length (option_to_list s)) none ∙ (let z : n + 0 ≡ n = omega arith in z) ∙ ap (λ s. unwrap_or s n) (sym none))
+    (λ h. let some : op.slot ≡ Some (suc n) = e ∙ h.0 in ap (λ s. n + length (option_to_list s)) some ∙ (let z : n + 1 ≡ suc n = omega arith in z) ∙ ap (λ s. unwrap_or s n) (sym some))
+    (slot_cases n op.code)
 
 -- what an operation puts into a slot
 abbrev pub shown_at : Option ℕ → Slot → List Slot
@@ -104,7 +119,7 @@ printed_more m ops op e =
 pub shown_more : (p : Progress) (op : Op) → shown (run_step p (Act op)) ≡ shown p ++ shown_at (slot_from (suc p.filled) op.code) (content p.memory op)
 shown_more p op =
     let n : ℕ = p.filled in
-    let g : Op = with_slot op (slot_from (suc n) op.code) in
+    let g : Op = at_slot op (slot_from (suc n) op.code) in
     ⊎_elim
     (λ h. ap (λ k. slots_to k (step p.memory g)) h.1 ∙ slots_kept p.memory g n h.0 ∙ sym (append-nil (slots_to n p.memory)) ∙ ap (λ s. slots_to n p.memory ++ shown_at s (content p.memory op)) (sym h.0))
     (λ h. ap (λ k. slots_to k (step p.memory g)) h.1 ∙ slots_more p.memory g n h.0 ∙ ap (λ s. slots_to n p.memory ++ shown_at s (content p.memory op)) (sym h.0))
@@ -115,7 +130,7 @@ slot_count_few [] = omega arith
 slot_count_few (op ∷ ops) =
     let rest : slot_count ops ≤ length ops = slot_count_few ops in
     let both : slot_count (op ∷ ops) ≡ length (option_to_list op.slot) + slot_count ops =
-    length-append (option_to_list op.slot) (flat_map (λ (f : Op). option_to_list f.slot) ops) in
+    length-append (option_to_list op.slot) (slot_numbers ops) in
     let one : length (option_to_list op.slot) ≤ 1 = at_most op.slot in
     omega arith
   where

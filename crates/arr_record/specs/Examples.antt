@@ -6,12 +6,12 @@ use Rattle.arr_view.specs.Strided.{Strided}
 use Rattle.arr_ops.specs.declared.op.Op.{Op}
 use Rattle.arr_ops.specs.declared.gather.Gather.{Gather}
 use Rattle.arr_ops.specs.Examples as ops
+use Rattle.arr_ops.specs.Ops.{at_slot}
 use Rattle.arr_elab.specs.declared.step.Step.{Step}
 use Rattle.arr_elab.specs.declared.step.Step.TheVariants as step
 use Rattle.arr_elab.specs.declared.step.Step.TheVariants.{Act, Name, Forget, Done, Cut}
 use Rattle.arr_view.specs.Views.{elements}
 use Rattle.arr_elab.specs.Recording.{is_recording}
-use Rattle.arr_elab.specs.Steps.{with_slot}
 use Rattle.arr_record.specs.Parts.{flush_lists, parts_of}
 use Rattle.arr_record.specs.declared.part.Part.TheVariants as part
 
@@ -20,7 +20,7 @@ count_two = ops.operation Range (ops.line 0 2) None None true
 
 -- a SYNC that has no slot yet
 abbrev pub sync_of : Strided → Op
-sync_of v = with_slot (ops.sync v 1) None
+sync_of v = at_slot (ops.sync v 1) None
 
 -- a = range(2), flush, flush, print a
 abbrev pub twice : List Step

@@ -5,8 +5,8 @@ use Rattle.arr_num.specs.declared.elem.Elem.{Elem}
 use Rattle.arr_num.specs.declared.code.Code.TheVariants.{Free}
 use Rattle.arr_view.specs.Strided.{Strided}
 use Rattle.arr_ops.specs.declared.op.Op.{Op}
-use Rattle.arr_ops.specs.Ops.{outputs}
-use Rattle.arr_elab.specs.Steps.{with_slot, slot_from, slot_count}
+use Rattle.arr_ops.specs.Ops.{at_slot, outputs}
+use Rattle.arr_elab.specs.Steps.{slot_from, slot_count}
 use Rattle.arr_elab.specs.Recording.{other_names}
 use Rattle.arr_elab.specs.declared.step.Step.{Step}
 use Rattle.arr_elab.specs.declared.step.Step.TheVariants as step
@@ -41,7 +41,7 @@ cut_if test w = cond test (cut w) w
 
 -- the operation that is appended: a SYNC fills the slot after those that the waiting list fills
 abbrev pub next_op : List Op → Op → Op
-next_op waiting op = with_slot op (slot_from (suc (slot_count waiting)) op.code)
+next_op waiting op = at_slot op (slot_from (suc (slot_count waiting)) op.code)
 
 -- a full list is cut
 abbrev pub append : Written → Op → Written
