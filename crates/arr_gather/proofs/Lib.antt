@@ -7,3 +7,4 @@ pub mod Copying
 pub mod Feeding
 pub mod Scattered
 pub mod Placed
+pub mod Rows

@@ -7,15 +7,16 @@ ghost use Rattle.arr_store.specs.Stored.{cells};
 ghost use Rattle.arr_gather.specs.Feeds.{Feeds, Inside, IsApart, owed, to_come};
 ghost use Rattle.arr_gather.specs.Steps.{Holds, numbers_at};
 
+use crate::places::Places;
 use arr_num::Elem;
 use arr_store::Store;
-use arr_view::{View, Walk};
+use arr_view::View;
 use std::alloc::{AllocError as NoMemory, Global};
 
-/// The numbers of a view that are still to come, in order: those that a base of the store has at the places of a walk, or copies.
+/// The numbers of a view that are still to come, in order: those that a base of the store has at these places, or copies.
 #[derive(Debug, Drop)]
 pub(crate) enum Feed {
-    Kept(u32, Walk),
+    Kept(u32, Places),
     Copied(Vec<i128>),
 }
 
@@ -37,7 +38,7 @@ impl Feed {
         ensures made { store.new.made ≡ store.old.made }
     {
         match self {
-            Feed::Kept(base, walk) => match walk.next() {
+            Feed::Kept(base, places) => match places.next() {
                 Some(place) => store.load(*base, place),
                 None => unreachable!(),
             },
@@ -57,7 +58,7 @@ fn copied(alloc: Global, view: &View, store: &mut Store) -> Result<Vec<i128>, No
     ensures made { store.new.made ≡ store.old.made }
 {
     let mut numbers = Vec::new(alloc);
-    for place in Walk::new(view) {
+    for place in Places::new(view) {
         let number = store.load(view.base(), place);
         numbers.push(number)?;
     }
@@ -82,7 +83,7 @@ pub(crate) fn feed_of(
     ensures made { store.new.made ≡ store.old.made }
 {
     if view.base() != written {
-        return Ok(Feed::Kept(view.base(), Walk::new(view)));
+        return Ok(Feed::Kept(view.base(), Places::new(view)));
     }
     let numbers = copied(alloc, view, store)?;
     Ok(Feed::Copied(numbers))

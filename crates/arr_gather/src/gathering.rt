@@ -1,23 +1,24 @@
 //! Reading by an index.
 ghost use Rattle.std.specs.Prelude.{ℤ, ◌≡◌, ◌+◌, ◌<◌, ◌≤◌, ◌^◌, OnErr, OnOk, true};
 ghost use Rattle.arr_num.specs.Numbers.{in_type};
-ghost use Rattle.arr_view.specs.Views.{positions};
+ghost use Rattle.arr_view.specs.Views.{is_consecutive, positions};
 ghost use Rattle.arr_ops.specs.Costs.{weight_of};
 ghost use Rattle.arr_ops.specs.Gathers.{gather_fits, gathered, is_gather};
 ghost use Rattle.arr_store.specs.Cells.{assigned, number_at, size_at, takes, width_at, with_number};
 ghost use Rattle.arr_store.specs.Stored.{cells};
 ghost use Rattle.arr_gather.specs.Steps.{CanPick, gather_loads, Holds, Picks, memory_of, number_named, numbers_at};
 
+use crate::places::{Places, element_at};
 use crate::position::position_named;
 use arr_ops::Gather;
 use arr_store::Store;
-use arr_view::Walk;
 use std::alloc::{AllocError as NoMemory, Global};
 
 /// Reads the number of the index at a place, and puts the number that it names to a position of the new base. The source has `count`
-/// positions.
+/// positions, and it is told whether it has no gap.
 #[inline]
-fn pick_one(op: &Gather, count: u32, place: u32, position: u32, store: &mut Store)
+fn pick_one(op: &Gather, gapless: bool, count: u32, place: u32, position: u32, store: &mut Store)
+    requires told { gapless ≡ is_consecutive op.now.source }
     requires count { count ≡ positions op.now.source.lengths }
     requires some { 0 < count }
     requires source { Holds (cells store.old) op.now.to op.now.source }
@@ -36,7 +37,7 @@ fn pick_one(op: &Gather, count: u32, place: u32, position: u32, store: &mut Stor
     ensures made { store.new.made ≡ store.old.made }
 {
     let named = position_named(store.load(op.index.base(), place), count);
-    let number = store.load(op.source.base(), op.source.element(named));
+    let number = store.load(op.source.base(), element_at(&op.source, gapless, named));
     store.store(op.out.base(), position, number);
 }
 
@@ -45,10 +46,11 @@ fn pick(op: &Gather, store: &mut Store)
     requires can { CanPick op.now store.old }
     ensures picks { Picks op.now store.old store.new }
 {
+    let gapless = op.source.is_gapless();
     let count = op.source.positions();
     let mut position = 0;
-    for place in Walk::new(&op.index) {
-        pick_one(op, count, place, position, store);
+    for place in Places::new(&op.index) {
+        pick_one(op, gapless, count, place, position, store);
         position += 1;
     }
 }

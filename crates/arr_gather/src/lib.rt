@@ -14,6 +14,7 @@
 
 mod feed;
 mod gathering;
+mod places;
 mod position;
 mod scattering;
 

@@ -7,6 +7,7 @@ ghost use Rattle.arr_gather.specs.Feeds.{CanPlace, Places};
 ghost use Rattle.arr_gather.specs.Steps.{memory_of, scatter_loads};
 
 use crate::feed::{Feed, feed_of};
+use crate::places::element_at;
 use crate::position::position_named;
 use arr_ops::Scatter;
 use arr_store::Store;
@@ -17,11 +18,16 @@ fn place_all(op: &Scatter, mut index: Feed, mut values: Feed, store: &mut Store)
     requires can { CanPlace op.now store.old index values }
     ensures places { Places op.now store.old store.new index values }
 {
+    let gapless = op.target.is_gapless();
     let count = op.target.positions();
     for position in 0..op.index.positions() {
         let named = position_named(index.next(position, store), count);
         let value = values.next(position, store);
-        store.store(op.target.base(), op.target.element(named), value);
+        store.store(
+            op.target.base(),
+            element_at(&op.target, gapless, named),
+            value,
+        );
     }
 }
 

@@ -14,26 +14,26 @@ use Rattle.arr_gather.proofs.gathering.pick_one.Goals as goal
 pub load-number-requires-clause-there : goal.load-number-requires-clause-there
 load-number-requires-clause-there c =
     let source = c.args.op.now.source in
-    let long : length (elements source) ≡ positions source.lengths = length-elements source c.element.ensures.lawful in
+    let long : length (elements source) ≡ positions source.lengths = length-elements source c.element_at.ensures.lawful in
     let below : c.position_named-named.result < length (elements source) = omega (arith, c.position_named-named.ensures.below) in
     let inside = element_inside (cells c.args.store.now) c.args.op.now.to source c.position_named-named.result c.requires.source below in
     let there : size_at (cells c.load.new.self c.base-2.result) ≡ size_at (cells c.args.store.now source.base) =
     ap (λ m. size_at (finite.get m c.base-2.result)) c.load.ensures.bases ∙ ap (λ b. size_at (cells c.args.store.now b)) c.base-2.ensures.value in
-    let is = c.element.ensures.value in
+    let is = c.element_at.ensures.value in
     omega arith
 
 pub returns-clause-bases : goal.returns-clause-bases
 returns-clause-bases c =
     let f = cells c.args.store.now in
     let op = c.args.op.now in
-    let long : length (elements op.source) ≡ positions op.source.lengths = length-elements op.source c.element.ensures.lawful in
+    let long : length (elements op.source) ≡ positions op.source.lengths = length-elements op.source c.element_at.ensures.lawful in
     let i : ℤ = number_at (f op.index.base) c.args.place in
     let named : c.position_named-named.result ≡ position_named c.args.count i =
     c.position_named-named.ensures.value ∙ ap (position_named c.args.count) (read c.load.result (taken_fits _ _ c.load.ensures.typed) ∙ c.load.ensures.number ∙ ap (λ b. number_at (f b) c.args.place) c.base.ensures.value) in
     let number : to_z w128 (of_z w128 c.load-number.result) ≡ number_named (numbers_at f op.source) i =
     read c.load-number.result (taken_fits _ _ c.load-number.ensures.typed) ∙ c.load-number.ensures.number
-    ∙ ap (λ m. number_at (finite.get m c.base-2.result) c.element.result) c.load.ensures.bases
-    ∙ ap (λ b. number_at (f b) c.element.result) c.base-2.ensures.value ∙ ap (number_at (f op.source.base)) c.element.ensures.value
+    ∙ ap (λ m. number_at (finite.get m c.base-2.result) c.element_at.result) c.load.ensures.bases
+    ∙ ap (λ b. number_at (f b) c.element_at.result) c.base-2.ensures.value ∙ ap (number_at (f op.source.base)) c.element_at.ensures.value
     ∙ sym (named_is f op.source i c.args.count c.position_named-named.result (long ∙ sym c.requires.count) named c.position_named-named.ensures.below) in
     c.store.ensures.bases
     ∙ ap (λ m. assigned (finite.get m) c.base-3.result (with_number (finite.get m c.base-3.result) c.args.position (to_z w128 (of_z w128 c.load-number.result)))) (c.load-number.ensures.bases ∙ c.load.ensures.bases)
@@ -47,7 +47,7 @@ pub load-number-requires-clause-room : goal.load-number-requires-clause-room
 load-number-requires-clause-room c =
     let f = cells c.args.store.now in
     let source = c.args.op.now.source in
-    let long : length (elements source) ≡ positions source.lengths = length-elements source c.element.ensures.lawful in
+    let long : length (elements source) ≡ positions source.lengths = length-elements source c.element_at.ensures.lawful in
     let below : c.position_named-named.result < length (elements source) = omega (arith, c.position_named-named.ensures.below) in
     let some = counted (f source.base) (get_or (elements source) c.position_named-named.result 0) (element_inside f c.args.op.now.to source c.position_named-named.result c.requires.source below) in
     let wide : width_at (f c.base.result) ≡ width_at (f c.args.op.now.index.base) = ap (λ b. width_at (f b)) c.base.ensures.value in

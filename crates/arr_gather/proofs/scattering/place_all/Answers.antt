@@ -36,7 +36,7 @@ store-requires-clause-there c =
     let size : size_at (cells c.next-value.new.store c.base.result) ≡ size_at (cells c.args.store.now target.base) =
     ap (λ b. size_at (cells c.next-value.new.store b)) c.base.ensures.value ∙ ap (λ m. size_at (finite.get m target.base)) (c.next-value.ensures.bases ∙ c.next.ensures.bases)
     ∙ ap size_at c.loop-position.invariant.target ∙ c.loop-position.invariant.size in
-    let is = c.element.ensures.value in
+    let is = c.element_at.ensures.value in
     omega arith
 
 pub loop-position-preserved : goal.loop-position-preserved
@@ -60,12 +60,12 @@ loop-position-preserved c =
     let read_i : to_z w128 (of_z w128 i) ≡ i = read i (fits_of_type op.of i (taken_typed op op.of (cells now) position c.loop-position.index c.next.new.self i k.index_typed a.number)) in
     let read_x : to_z w128 (of_z w128 x) ≡ x = read x (fits_of_type op.to x (taken_typed op op.to (cells now) position c.loop-position.values c.next-value.new.self x k.values_typed b.number)) in
     let long : c.positions-count.result ≡ length (elements op.target) = c.positions-count.ensures.value ∙ sym (length-elements op.target c.positions-count.ensures.lawful) in
-    let place : c.element.result ≡ spot (elements op.target) i =
-    c.element.ensures.value ∙ ap (λ n. get_or (elements op.target) n 0) (c.position_named-named.ensures.value ∙ ap (position_named c.positions-count.result) read_i ∙ ap (λ n. position_named n i) long) in
-    let bases : cells c.store.new.self ≡ assigned (cells far) op.target.base (with_number (cells far op.target.base) c.element.result x) =
-    c.store.ensures.bases ∙ ap (λ b. assigned (cells far) b (with_number (cells far b) c.element.result (to_z w128 (of_z w128 x)))) c.base.ensures.value
-    ∙ ap (λ y. assigned (cells far) op.target.base (with_number (cells far op.target.base) c.element.result y)) read_x in
-    scattering_more op c.args.store.now now mid far c.store.new.self c.args.index c.args.values c.loop-position.index c.loop-position.values c.next.new.self c.next-value.new.self position left c.element.result i x
+    let place : c.element_at.result ≡ spot (elements op.target) i =
+    c.element_at.ensures.value ∙ ap (λ n. get_or (elements op.target) n 0) (c.position_named-named.ensures.value ∙ ap (position_named c.positions-count.result) read_i ∙ ap (λ n. position_named n i) long) in
+    let bases : cells c.store.new.self ≡ assigned (cells far) op.target.base (with_number (cells far op.target.base) c.element_at.result x) =
+    c.store.ensures.bases ∙ ap (λ b. assigned (cells far) b (with_number (cells far b) c.element_at.result (to_z w128 (of_z w128 x)))) c.base.ensures.value
+    ∙ ap (λ y. assigned (cells far) op.target.base (with_number (cells far op.target.base) c.element_at.result y)) read_x in
+    scattering_more op c.args.store.now now mid far c.store.new.self c.args.index c.args.values c.loop-position.index c.loop-position.values c.next.new.self c.next-value.new.self position left c.element_at.result i x
     k a b place bases c.store.ensures.loads (c.store.ensures.stores ∙ ap (λ b. far.stores + width_at (cells far b)) c.base.ensures.value) c.store.ensures.made
 
 pub returns : goal.returns
