@@ -6,7 +6,9 @@ ghost use Rattle.arr_elab.specs.Recording.{is_recording};
 use arr_cost::Costs;
 use arr_deps::Graph;
 use arr_elab::{Step, elaborate};
+use arr_greedy::greedy;
 use arr_heur::linear;
+use arr_lanes::Spares;
 use arr_law::{Certificate, Charge, Charges, OpList, Places, Record, Records};
 use arr_num::{Code, Elem};
 use arr_ops::{Op, Plan, list_formed};
@@ -67,6 +69,7 @@ fn is_planned(rt: &impl Abort, alloc: Global, list: &[Op]) -> Result<(), AllocEr
     let costs = Costs::of(alloc, list)?;
     let plan = linear(alloc, &graph)?;
     assert_eq!(rt; plan.blocks.len(), 1);
+    assert_eq!(rt; greedy(alloc, &graph, &costs)?.blocks.len(), 1);
     assert_eq!(rt; costs.block_cost(alloc, &[1])?, 24);
     assert_eq!(rt; costs.saving(alloc, &[1], &[2])?, 24);
     assert_eq!(rt; costs.reads(alloc, &[2])?.len(), 1);
@@ -122,6 +125,7 @@ fn sets_stores_and_plans_are_made(rt: HostRuntime) -> Result<(), Fail> {
     let mut set = Bits::new(alloc, 200)?;
     set.insert(64);
     assert!(rt; set.has(64) && !set.has(65));
+    drop(Spares::new(alloc, 256)?);
     let mut numbers = OpSet::new(alloc, 200)?;
     numbers.insert(200);
     assert!(rt; numbers.has(200) && !numbers.has(1));
