@@ -1,15 +1,15 @@
 //! What is asked of an operation, and of two.
-ghost use Rattle.std.specs.Prelude.{◌≡◌, ◌||◌, IsTrue, cond, length, map};
+ghost use Rattle.std.specs.Prelude.{◌≡◌, ◌||◌, IsTrue, cond, length};
 ghost use Rattle.std.specs.List.{list_any};
-ghost use Rattle.std.specs.Option.{option_copied, option_to_list};
+ghost use Rattle.std.specs.Option.{option_copied};
 ghost use Rattle.arr_num.specs.Kinds.{is_reduction, walks_input};
 ghost use Rattle.arr_view.specs.Views.{has, same_lists};
-ghost use Rattle.arr_ops.specs.Ops.{crosses, dep, disturbs, freed, fusible, named, inputs, is_free, outputs, same_walk, serial, view_of, walked};
+ghost use Rattle.arr_ops.specs.Ops.{crosses, dep, disturbs, freed, fusible, named, inputs, is_free, outputs, same_walk, serial, walked};
 ghost use Rattle.arr_deps.specs.Classed.{cross, first_view, meet, within, Stands};
 
 use crate::classed::Classed;
 use arr_num::Code;
-use arr_ops::{Op, Operand};
+use arr_ops::Op;
 use arr_overlap::Classes;
 use arr_view::View;
 
@@ -60,39 +60,11 @@ fn walks_input(code: Code) -> bool
     }
 }
 
-fn is_of(view: &Option<View>, base: u32) -> bool
-    ensures { result ≡ has (map (λ v. v.base) (option_to_list view.now)) base }
-{
-    match view {
-        Some(view) => base == view.base(),
-        None => false,
-    }
-}
-
-fn reads_base(operand: &Option<Operand>, base: u32) -> bool
-    ensures { result ≡ has (map (λ v. v.base) (view_of operand.now)) base }
-{
-    match operand {
-        Some(Operand::Array(view)) => base == view.base(),
-        _ => false,
-    }
-}
-
-/// Whether an operation names a base.
-fn names(op: &Op, base: u32) -> bool
-    ensures { result ≡ has (named op.now) base }
-{
-    is_of(&op.out, base)
-        || reads_base(&op.first, base)
-        || reads_base(&op.second, base)
-        || op.frees == Some(base)
-}
-
 fn frees_named(f: &Op, g: &Op) -> bool
     ensures { result ≡ list_any (has (named g.now)) (freed f.now) }
 {
     match f.frees {
-        Some(base) => names(g, base),
+        Some(base) => g.names(base),
         None => false,
     }
 }
@@ -169,14 +141,11 @@ fn walked_view(op: &Op) -> Option<&View>
     ensures { option_copied result ≡ first_view (cond (walks_input op.now.code) (inputs op.now) (outputs op.now)) }
 {
     if !walks_input(op.code) {
-        return op.out.as_ref();
+        return op.out_view();
     }
-    match &op.first {
-        Some(Operand::Array(view)) => Some(view),
-        _ => match &op.second {
-            Some(Operand::Array(view)) => Some(view),
-            _ => None,
-        },
+    match op.first_view() {
+        Some(view) => Some(view),
+        None => op.second_view(),
     }
 }
 
