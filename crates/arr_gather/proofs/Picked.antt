@@ -15,8 +15,8 @@ use Rattle.arr_ops.specs.Memory.{Becomes, Cell, Keeps, changed, read}
 use Rattle.arr_ops.proofs.Spots.{none_from}
 use Rattle.arr_ops.proofs.Tests.{both_left, both_right, same_from_test}
 use Rattle.arr_store.specs.Cells.{assigned, blank}
-use Rattle.arr_store.specs.Stored.{Stored, cells}
-use Rattle.arr_gather.specs.Steps.{CanPick, Holds, memory_of, numbers_at, with_picked}
+use Rattle.arr_store.specs.Stored.{Stored, cells, memory_of}
+use Rattle.arr_gather.specs.Steps.{CanPick, Holds, numbers_at, with_picked}
 use Rattle.arr_gather.proofs.Bases.{at_other, at_same, twice}
 
 -- what a fitting store holds

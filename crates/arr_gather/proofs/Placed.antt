@@ -19,10 +19,10 @@ use Rattle.arr_ops.proofs.Parts.{length-elements}
 use Rattle.arr_ops.proofs.Tests.{all_of, both_left, both_right, same_from_test}
 use Rattle.arr_ops.proofs.Typed.{get_in}
 use Rattle.arr_store.specs.Cells.{assigned, size_at}
-use Rattle.arr_store.specs.Stored.{Stored, cells}
+use Rattle.arr_store.specs.Stored.{Stored, cells, memory_of}
 use Rattle.arr_gather.specs.declared.feed.Feed.{Feed}
 use Rattle.arr_gather.specs.Feeds.{Feeds, to_come, with_placed}
-use Rattle.arr_gather.specs.Steps.{Holds, memory_of, numbers_at}
+use Rattle.arr_gather.specs.Steps.{Holds, numbers_at}
 use Rattle.arr_gather.proofs.Numbers.{Target, element_inside, target_of}
 use Rattle.arr_gather.proofs.Placing.{writes_last}
 

@@ -1,21 +1,17 @@
--- A store as a memory, what is loaded, and what filling a base says.
-use Rattle.std.specs.Prelude.{◌≡◌, ◌≢◌, ℕ, ℤ, pos, ◌+◌, ◌*◌, ◌^◌, ◌≤◌, true, List, length, get_or, None, Option, Some}
+-- What is loaded, and what filling a base says.
+use Rattle.std.specs.Prelude.{◌≡◌, ◌≢◌, ℕ, ℤ, pos, ◌+◌, ◌*◌, ◌^◌, ◌≤◌, true, List, length, get_or, Option, Some}
 use Rattle.arr_num.specs.Numbers.{width}
 use Rattle.arr_num.specs.declared.elem.Elem.{Elem}
 use Rattle.arr_view.specs.Strided.{Strided}
 use Rattle.arr_view.specs.Views.{elements, positions}
 use Rattle.arr_ops.specs.Fits.{meets_need}
 use Rattle.arr_ops.specs.Gathers.{need, picked, position_named}
-use Rattle.arr_ops.specs.Memory.{Cell, Memory, read}
+use Rattle.arr_ops.specs.Memory.{Cell, read}
 use Rattle.arr_ops.specs.declared.gather.Gather.{Gather}
 use Rattle.arr_ops.specs.declared.gather.Scatter.{Scatter}
 use Rattle.arr_ops.specs.Costs.{weight_of}
 use Rattle.arr_store.specs.Cells.{assigned, blank}
 use Rattle.arr_store.specs.Stored.{Stored, cells}
-
--- the memory of a store: its bases, and no slot
-abbrev pub memory_of : Stored → Memory
-memory_of store = record { bases = cells store; slots = λ s. None }
 
 -- ---- how many bytes are loaded at most
 

@@ -5,8 +5,8 @@ ghost use Rattle.arr_view.specs.Views.{is_consecutive, positions};
 ghost use Rattle.arr_ops.specs.Costs.{weight_of};
 ghost use Rattle.arr_ops.specs.Gathers.{gather_fits, gathered, is_gather};
 ghost use Rattle.arr_store.specs.Cells.{assigned, number_at, size_at, takes, width_at, with_number};
-ghost use Rattle.arr_store.specs.Stored.{cells};
-ghost use Rattle.arr_gather.specs.Steps.{CanPick, gather_loads, Holds, Picks, memory_of, number_named, numbers_at};
+ghost use Rattle.arr_store.specs.Stored.{cells, memory_of};
+ghost use Rattle.arr_gather.specs.Steps.{CanPick, gather_loads, Holds, Picks, number_named, numbers_at};
 
 use crate::places::{Places, element_at};
 use crate::position::position_named;

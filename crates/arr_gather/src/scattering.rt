@@ -2,9 +2,9 @@
 ghost use Rattle.std.specs.Prelude.{◌≡◌, ◌+◌, ◌<◌, ◌≤◌, ◌^◌, OnErr, OnOk, true};
 ghost use Rattle.arr_ops.specs.Costs.{weight_of};
 ghost use Rattle.arr_ops.specs.Gathers.{is_scatter, scatter_fits, scattered};
-ghost use Rattle.arr_store.specs.Stored.{cells};
+ghost use Rattle.arr_store.specs.Stored.{cells, memory_of};
 ghost use Rattle.arr_gather.specs.Feeds.{CanPlace, Places};
-ghost use Rattle.arr_gather.specs.Steps.{memory_of, scatter_loads};
+ghost use Rattle.arr_gather.specs.Steps.{scatter_loads};
 
 use crate::feed::{Feed, feed_of};
 use crate::places::element_at;

@@ -8,9 +8,10 @@ ghost use Rattle.arr_ops.specs.Gathers.{gather_fits, gathered, is_gather, is_sca
 ghost use Rattle.arr_elab.specs.Steps.{printed};
 ghost use Rattle.arr_record.specs.Runs.{after_part, after_parts, each_fits, is_part, part_fits, printed_part};
 ghost use Rattle.arr_store.specs.Slots.{slots_of};
+ghost use Rattle.arr_store.specs.Stored.{memory_of};
 ghost use Rattle.arr_run.specs.Texts.{array_text};
 ghost use Rattle.arr_run.specs.Shown.{AllShow, Shows, slot_text, slots_text};
-ghost use Rattle.arr_run.specs.Parts.{Caused, CountsBelow, OnRan, RisesBy, StoppedIn, Wrote, parts_text, memory_of};
+ghost use Rattle.arr_run.specs.Parts.{Caused, CountsBelow, OnRan, RisesBy, StoppedIn, Wrote, parts_text};
 
 use crate::texts::push_array;
 use arr_gather::{gather, scatter};

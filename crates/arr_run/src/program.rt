@@ -5,9 +5,9 @@ ghost use Rattle.std.specs.String.{string_bytes};
 ghost use Rattle.arr_io.specs.Causes.{Rose};
 ghost use Rattle.arr_elab.specs.declared.step.Step.{Step};
 ghost use Rattle.arr_record.specs.Runs.{after_parts, each_fits, is_part};
-ghost use Rattle.arr_store.specs.Stored.{cells};
+ghost use Rattle.arr_store.specs.Stored.{cells, memory_of};
 ghost use Rattle.arr_run.specs.Answers.{Accepts, Blames, IsReadOut, Serves};
-ghost use Rattle.arr_run.specs.Parts.{CountsBelow, Ended, RisesBy, StoppedIn, parts_text, memory_of};
+ghost use Rattle.arr_run.specs.Parts.{CountsBelow, Ended, RisesBy, StoppedIn, parts_text};
 ghost use Rattle.arr_run.specs.Texts.{refusal_text};
 ghost use Rattle.arr_run.specs.Words.{command_of};
 

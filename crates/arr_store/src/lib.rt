@@ -10,11 +10,11 @@
 //! `store_run` move numbers that lie a stride apart ([`Run`]) between a base and a [`Buffer`] of its type, and count each of them;
 //! `put_run` puts such numbers into a slot.
 //!
-//! The definitions: `specs/Stored.antt` has what a contract sees of a store, and its bases as a function from numbers to cells
-//! (`cells`), as `Memory` of arr_ops has them; `specs/Slots.antt` has the slots as such a function (`slots_of`) and the slots of a
-//! list (`blank_slots`); `specs/Cells.antt` what calls read of one cell, and `assigned`, a function changed at one number;
-//! `specs/Runs.antt` the places of a run. `cell_of` (`specs/Buffers.antt`) is the type and the numbers of a buffer. How fields show
-//! these (`Tables`, `Pages`) no clause names.
+//! The definitions: `specs/Stored.antt` has what a contract sees of a store, its bases as a function from numbers to cells (`cells`),
+//! as `Memory` of arr_ops has them, and the memory that is made of them (`memory_of`); `specs/Slots.antt` has the slots as such a
+//! function (`slots_of`) and the slots of a list (`blank_slots`); `specs/Cells.antt` what calls read of one cell, and `assigned`, a
+//! function changed at one number; `specs/Runs.antt` the places of a run. `cell_of` (`specs/Buffers.antt`) is the type and the numbers
+//! of a buffer. How fields show these (`Tables`, `Pages`) no clause names.
 #![tactic(auto)]
 
 mod buffer;

@@ -1,9 +1,10 @@
 use Rattle.std.proofs.Common.{◌≡◌, ◌∙◌, ◌+◌, Err, sym, subst, rules, arith, drop, refl, true}
 use Rattle.std.specs.Io.KnownBytes.{Appends}
 use Rattle.arr_record.specs.Runs.{after_part, each_fits}
+use Rattle.arr_store.specs.Stored.{memory_of}
 use Rattle.arr_run.specs.declared.parts.RunFault.TheVariants.{WriteFault}
 use Rattle.std.proofs.KnownBytes.{Appends-trans}
-use Rattle.arr_run.specs.Parts.{Wrote, parts_text, memory_of}
+use Rattle.arr_run.specs.Parts.{Wrote, parts_text}
 use Rattle.arr_run.proofs.Turns.{Failed, Turn, failed, risen, is_one, same_fault, stopped, turn}
 use Rattle.arr_run.proofs.Writes.{wrote_part}
 use Rattle.arr_run.proofs.parts.run_parts.Goals as goal

@@ -1,7 +1,8 @@
 use Rattle.std.proofs.Common.{◌≡◌, ◌*◌, ◌^◌, ◌≤◌, drop, take, true}
 use Rattle.std.specs.Io.KnownBytes.{Appends}
 use Rattle.arr_record.specs.Runs.{after_parts, each_fits}
-use Rattle.arr_run.specs.Parts.{RisesBy, parts_text, memory_of}
+use Rattle.arr_store.specs.Stored.{memory_of}
+use Rattle.arr_run.specs.Parts.{RisesBy, parts_text}
 use Rattle.arr_run.proofs.parts.run_parts.Given as goal
 
 abbrev pub invariant-loop-part : goal.invariant-loop-part
