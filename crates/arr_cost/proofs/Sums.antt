@@ -1,69 +1,14 @@
 -- Sums over views and over blocks.
-use Rattle.std.proofs.Common.{◌≡◌, ℕ, zero, suc, ◌+◌, ◌*◌, ◌≤◌, ◌<◌, List, [], ◌∷◌, ◌++◌, Bool, true, false, cond, not, ◌&&◌, ◌||◌, Option, Some, None, length, map, drop, get_or, refl, ap, sym, subst, ◌∙◌, arith}
+use Rattle.std.proofs.Common.{◌≡◌, ℕ, zero, suc, ◌+◌, ◌≤◌, ◌<◌, List, [], ◌∷◌, Bool, true, false, cond, ◌&&◌, ◌||◌, length, map, drop, get_or, refl, ap, sym, subst, ◌∙◌, arith}
 use Rattle.std.specs.Prelude.{◌==◌, nat_lt, nat_le}
-use Rattle.std.specs.List.{filter, flat_map, list_all, enumerate_from}
+use Rattle.std.specs.List.{list_all, enumerate_from}
 use Rattle.std.proofs.lemmas.Bool.{and_parts, eqb-true, ltb-true, ltb-false, leb-true, false≢true}
-use Rattle.std.proofs.lemmas.List.{length-append}
-use Rattle.std.proofs.Math.Nat.{mul-suc}
-use Rattle.arr_view.specs.Strided.{Strided}
-use Rattle.arr_view.specs.Views.{has, identical}
+use Rattle.arr_view.specs.Views.{has}
 use Rattle.arr_ops.specs.declared.op.Op.{Op}
-use Rattle.arr_ops.specs.declared.op.Operand.{Operand}
-use Rattle.arr_ops.specs.declared.op.Operand.TheVariants.{Array, Number}
-use Rattle.arr_ops.specs.Ops.{inputs, outputs, creates, freed_by, view_of}
-use Rattle.arr_ops.specs.Costs.{all_reads, all_writes, distinct, ext, total}
-use Rattle.arr_ops.specs.Plans.{holders, is_legal, not_empty, numbered, ops_of}
+use Rattle.arr_ops.specs.Costs.{total}
+use Rattle.arr_ops.specs.Plans.{holders, is_legal, not_empty, numbered}
 use Rattle.arr_ops.proofs.Members.{has_least}
 use Rattle.arr_ops.specs.Order.{least_of}
-use Rattle.std.specs.Option.{option_to_list}
-
--- ---- how many views
-
-short_filter : (p : Strided → Bool) (vs : List Strided) → length (filter p vs) ≤ length vs
-short_filter p [] = omega arith
-short_filter p (v ∷ vs) =
-    let h : length (filter p vs) ≤ length vs = short_filter p vs in
-    elim (p v) as (λ b. length (cond b (v ∷ filter p vs) (filter p vs)) ≤ suc (length vs)) [ true ↦ omega arith | false ↦ omega arith ]
-
-pub short_distinct : (vs : List Strided) → length (distinct identical vs) ≤ length vs
-short_distinct [] = omega arith
-short_distinct (v ∷ vs) =
-    let h : length (distinct identical vs) ≤ length vs = short_distinct vs in
-    let k : length (filter (λ w. not (identical v w)) (distinct identical vs)) ≤ length (distinct identical vs) = short_filter (λ w. not (identical v w)) (distinct identical vs) in
-    omega arith
-
-short_map : (of : Op → List Strided) (n : ℕ) (p : Strided → Bool) → ((op : Op) → length (of op) ≤ n) → (ops : List Op) → length (flat_map (λ op. filter p (of op)) ops) ≤ n * length ops
-short_map of n p h [] = omega arith
-short_map of n p h (op ∷ ops) =
-    let a : length (filter p (of op)) ≤ length (of op) = short_filter p (of op) in
-    let b : length (of op) ≤ n = h op in
-    let c : length (flat_map (λ op. filter p (of op)) ops) ≤ n * length ops = short_map of n p h ops in
-    let s : length (filter p (of op) ++ flat_map (λ op. filter p (of op)) ops) ≡ length (filter p (of op)) + length (flat_map (λ op. filter p (of op)) ops) = length-append (filter p (of op)) (flat_map (λ op. filter p (of op)) ops) in
-    let t : n * suc (length ops) ≡ n * length ops + n = omega (arith, mul-suc n (length ops)) in
-    omega arith
-
-one : (o : Option Operand) → length (view_of o) ≤ 1
-one None = omega arith
-one (Some (Array v)) = omega arith
-one (Some (Number z)) = omega arith
-
-pub few_touched : (ops : List Op) → length ops ≤ 256 → length (ext ops) ≤ 768
-few_touched ops few =
-    let r : length (all_reads ops) ≤ 2 * length ops = short_map inputs 2 (λ v. not (creates ops v.base)) (λ op. omega (arith, length-append (view_of op.first) (view_of op.second), one op.first, one op.second)) ops in
-    let w : length (all_writes ops) ≤ 1 * length ops = short_map outputs 1 (λ v. not (freed_by ops v.base)) (λ op. at_most op.out) ops in
-    let s : length (all_reads ops ++ all_writes ops) ≡ length (all_reads ops) + length (all_writes ops) = length-append (all_reads ops) (all_writes ops) in
-    let d : length (ext ops) ≤ length (all_reads ops ++ all_writes ops) = short_distinct (all_reads ops ++ all_writes ops) in
-    omega arith
-  where
-    at_most : (o : Option Strided) → length (option_to_list o) ≤ 1
-    at_most None = omega arith
-    at_most (Some v) = omega arith
-
-pub short_block : (k : ℕ) (ops : List Op) (block : List ℕ) → length (ops_of (enumerate_from k ops) block) ≤ length ops
-short_block k [] block = omega arith
-short_block k (op ∷ ops) block =
-    let h : length (ops_of (enumerate_from (k + 1) ops) block) ≤ length ops = short_block (k + 1) ops block in
-    elim (has block k) as (λ b. length (cond b (op ∷ ops_of (enumerate_from (k + 1) ops) block) (ops_of (enumerate_from (k + 1) ops) block)) ≤ suc (length ops)) [ true ↦ omega arith | false ↦ omega arith ]
 
 -- ---- one more of a sum
 

@@ -1,14 +1,15 @@
 //! The costs of a list.
 ghost use Rattle.std.specs.Prelude.{◌≡◌, ◌≤◌, ◌<◌, ◌+◌, ◌-◌, ◌*◌, ◌++◌, ◌∷◌, [], IfOk, IsTrue, cond, length, slice_index_or};
 ghost use Rattle.arr_view.specs.Views.{has};
-ghost use Rattle.arr_ops.specs.Costs.{block_cost, cost, ext, reads, writes};
+ghost use Rattle.arr_ops.specs.Costs.{block_cost, cost, reads, writes};
 ghost use Rattle.arr_ops.specs.Formed.{is_formed};
 ghost use Rattle.arr_ops.specs.Plans.{is_legal, numbered, ops_of};
 
 use crate::NoMemory;
 use crate::block::{all_reads, push_writes};
 use crate::distinct::distinct;
-use crate::weights::total_weight;
+use crate::tally::touched_weight;
+use crate::touches::{Touches, table_of};
 use arr_ops::{Op, Plan};
 use arr_sets::MOST;
 use arr_view::View;
@@ -19,18 +20,21 @@ use std::marker::Model;
 #[derive(Drop)]
 pub struct Costs {
     ops: Vec<Op>,
+    table: Vec<Touches>,
 }
 
 impl Model for Costs {
-    ghost use Rattle.std.specs.Prelude.{◌≤◌, List, IsTrue, length};
+    ghost use Rattle.std.specs.Prelude.{◌≡◌, ◌≤◌, ◌*◌, List, IsTrue, length};
+    ghost use Rattle.std.specs.List.{All};
     ghost use Rattle.arr_ops.specs.declared.op.Op.{Op};
     ghost use Rattle.arr_ops.specs.Formed.{is_formed};
+    ghost use Rattle.arr_cost.specs.Touches.{is_below, table_of};
 
     ghost Value = { List Op };
 
     ghost view = { λ c. c.ops.items };
 
-    ghost invariant = { λ c. (length c.ops.items ≤ 256) × (IsTrue (is_formed c.ops.items)) };
+    ghost invariant = { λ c. (length c.ops.items ≤ 256) × (IsTrue (is_formed c.ops.items)) × (c.table.items ≡ table_of c.ops.items) × (All (λ t. IsTrue (is_below (3 * length c.table.items) t)) c.table.items) };
 }
 
 fn copied(alloc: Global, ops: &[Op]) -> Result<Vec<Op>, NoMemory>
@@ -61,8 +65,7 @@ fn push_if(inside: bool, found: &mut Vec<Op>, op: &Op) -> Result<(), NoMemory>
 /// The operations of a block, in the order of the list.
 fn block_ops(alloc: Global, ops: &[Op], block: &[u32]) -> Result<Vec<Op>, NoMemory>
     requires { length ops.now ≤ 256 }
-    ensures value { IfOk result (λ found. found.items ≡ ops_of (numbered ops.now) block.now) }
-    ensures few { IfOk result (λ found. length found.items ≤ 256) }
+    ensures { IfOk result (λ found. found.items ≡ ops_of (numbered ops.now) block.now) }
 {
     let mut found = Vec::new(alloc);
     for place in 0..ops.len() {
@@ -71,27 +74,14 @@ fn block_ops(alloc: Global, ops: &[Op], block: &[u32]) -> Result<Vec<Op>, NoMemo
     Ok(found)
 }
 
-/// What the operations of a block read and write outside it, up to identity.
-fn touched(alloc: Global, block: &[Op]) -> Result<Vec<View>, NoMemory>
-    requires { length block.now ≤ 256 }
-    ensures value { IfOk result (λ found. found.items ≡ ext block.now) }
-    ensures few { IfOk result (λ found. length found.items ≤ 768) }
-{
-    let mut all = all_reads(alloc, block)?;
-    push_writes(&mut all, block)?;
-    let found = distinct(alloc, all.as_slice())?;
-    Ok(found)
-}
-
 /// What a block costs, in bytes.
-fn cost_of(alloc: Global, ops: &[Op], block: &[u32]) -> Result<u64, NoMemory>
-    requires { length ops.now ≤ 256 }
-    ensures value { IfOk result (λ sum. sum ≡ block_cost ops.now block.now) }
-    ensures small { IfOk result (λ sum. sum ≤ 768 * 8388608) }
+fn cost_of(alloc: Global, costs: &Costs, block: &[u32]) -> Result<u64, NoMemory>
+    ensures value { IfOk result (λ sum. sum ≡ block_cost costs.now block.now) }
+    ensures small { IfOk result (λ sum. sum ≤ 771 * 8388608) }
+    ensures few { IfOk result (λ sum. length costs.now ≤ 256) }
 {
-    let found = block_ops(alloc, ops, block)?;
-    let views = touched(alloc, found.as_slice())?;
-    Ok(total_weight(ops, views.as_slice()))
+    let sum = touched_weight(alloc, costs.table.as_slice(), block)?;
+    Ok(sum)
 }
 
 impl Costs {
@@ -104,6 +94,7 @@ impl Costs {
     {
         Ok(Costs {
             ops: copied(alloc, ops)?,
+            table: table_of(alloc, ops)?,
         })
     }
 
@@ -151,7 +142,7 @@ impl Costs {
     pub fn block_cost(&self, alloc: Global, block: &[u32]) -> Result<u64, NoMemory>
         ensures { IfOk result (λ sum. sum ≡ block_cost self.now block.now) }
     {
-        cost_of(alloc, self.ops.as_slice(), block)
+        cost_of(alloc, self, block)
     }
 
     /// What a legal plan of the list costs, in bytes (docs/PLANS.md, "Cost"). Want of memory is its one refusal.
@@ -159,10 +150,9 @@ impl Costs {
         requires { IsTrue (is_legal self.now plan.now) }
         ensures { IfOk result (λ sum. sum ≡ cost self.now plan.now) }
     {
-        let ops = self.ops.as_slice();
         let mut sum = 0;
         for block in &plan.blocks {
-            sum += cost_of(alloc, ops, block.as_slice())?;
+            sum += cost_of(alloc, self, block.as_slice())?;
         }
         Ok(sum)
     }
@@ -172,12 +162,11 @@ impl Costs {
     pub fn saving(&self, alloc: Global, a: &[u32], b: &[u32]) -> Result<u64, NoMemory>
         ensures { IfOk result (λ saved. block_cost self.now (a.now ++ b.now) + saved ≡ block_cost self.now a.now + block_cost self.now b.now) }
     {
-        let ops = self.ops.as_slice();
         let mut both = a.to_vec(alloc)?;
         both.extend_from_slice(b)?;
-        let first = cost_of(alloc, ops, a)?;
-        let second = cost_of(alloc, ops, b)?;
-        let whole = cost_of(alloc, ops, both.as_slice())?;
+        let first = cost_of(alloc, self, a)?;
+        let second = cost_of(alloc, self, b)?;
+        let whole = cost_of(alloc, self, both.as_slice())?;
         Ok(first + second - whole)
     }
 }

@@ -3,12 +3,17 @@
 //! The promise: a `Costs` keeps a copy of its list; `reads`, `writes`, `block_cost` and `cost` are exactly the definitions of arr_ops
 //! (docs/PLANS.md, "Cost"), and `saving` is what two blocks cost less their union, which is never below 0.
 //!
-//! The definitions are those of arr_ops, specs/Costs.antt.
+//! Of each operation a `Costs` keeps, in numbers, which views it touches and what they weigh, so that what a block costs is found without its
+//! operations: each class of identical views is marked once it is counted.
+//!
+//! The definitions are those of arr_ops, specs/Costs.antt; specs/Touches.antt says which numbers stand for the views.
 #![tactic(auto)]
 
 mod block;
 mod costs;
 mod distinct;
+mod tally;
+mod touches;
 mod weights;
 
 pub use costs::Costs;

@@ -1,8 +1,8 @@
 //! What views weigh.
-ghost use Rattle.std.specs.Prelude.{◌≡◌, ◌≤◌, ◌*◌, ◌==◌, length, map};
+ghost use Rattle.std.specs.Prelude.{◌≡◌, ◌≤◌, ◌==◌, map};
 ghost use Rattle.std.specs.Option.{option_to_list};
 ghost use Rattle.arr_view.specs.Views.{has};
-ghost use Rattle.arr_ops.specs.Costs.{elem_of, total, weight};
+ghost use Rattle.arr_ops.specs.Costs.{elem_of, weight};
 ghost use Rattle.arr_ops.specs.Formed.{typed};
 ghost use Rattle.arr_ops.specs.Ops.{inputs, outputs, view_of};
 ghost use Rattle.arr_cost.specs.Types.{type_among};
@@ -61,22 +61,9 @@ fn elem_of(list: &[Op], base: u32) -> Elem
 }
 
 /// What one view weighs in a list, in bytes.
-fn view_weight(list: &[Op], view: &View) -> u64
+pub(crate) fn view_weight(list: &[Op], view: &View) -> u64
     ensures value { result ≡ weight list.now view.now }
     ensures small { result ≤ 8388608 }
 {
     weight(view, elem_of(list, view.base()))
-}
-
-/// What views weigh together in a list, in bytes.
-pub(crate) fn total_weight(list: &[Op], views: &[View]) -> u64
-    requires { length views.now ≤ 768 }
-    ensures value { result ≡ total (weight list.now) views.now }
-    ensures small { result ≤ 768 * 8388608 }
-{
-    let mut sum = 0;
-    for view in views {
-        sum += view_weight(list, view);
-    }
-    sum
 }

@@ -118,6 +118,9 @@ fn reach_row(rows: &mut [bool], width: usize, left: usize, right: usize, row: us
     ensures row { (x y : ℕ) → x < width → y < width → flag rows.new width x y ≡ cond (x == row) (reach_after (λ k. k) (flag rows.old width) left right x y) (flag rows.old width x y) }
 {
     let reaches = reaches_one(rows, width, left, right, row);
+    if !reaches {
+        return;
+    }
     for column in 0..width {
         let reached = reached_after(rows, width, left, right, row, column, reaches);
         put(rows, width, row, column, reached);

@@ -23,7 +23,7 @@ fn with_other(
     at(rows, width, row, column) || (take && (other == column || at(rows, width, other, column)))
 }
 
-/// Takes another row into a row, and the other itself.
+/// Takes another row into a row, and the other itself, if it is to be taken.
 fn take_row(rows: &mut [bool], width: usize, row: usize, other: usize, take: bool)
     requires row_in { row < width }
     requires other_in { other < width }
@@ -31,6 +31,9 @@ fn take_row(rows: &mut [bool], width: usize, row: usize, other: usize, take: boo
     ensures size { length rows.new ≡ width * width }
     ensures row { (x y : ℕ) → x < width → y < width → flag rows.new width x y ≡ cond (x == row) (flag rows.old width row y || (take && (other == y || flag rows.old width other y))) (flag rows.old width x y) }
 {
+    if !take {
+        return;
+    }
     for column in 0..width {
         let reached = with_other(rows, width, row, other, column, take);
         put(rows, width, row, column, reached);

@@ -4,6 +4,6 @@ use Rattle.arr_cost.proofs.costs.Costs.cost.Given as goal
 
 abbrev pub invariant-loop-block : goal.invariant-loop-block
 invariant-loop-block l = record {
-  value : l.sum + total (block_cost l.ops) (drop l.block-index (map (λ b. b.items) l.block-items)) ≡ total (block_cost l.ops) (map (λ b. b.items) l.block-items);
-  small : l.sum ≤ l.block-index * 6442450944;
+  value : l.sum + total (block_cost l.self) (drop l.block-index (map (λ b. b.items) l.block-items)) ≡ total (block_cost l.self) (map (λ b. b.items) l.block-items);
+  small : l.sum ≤ l.block-index * 6467616768;
 }
