@@ -3,19 +3,13 @@
 ghost use Rattle.std.specs.Prelude.{◌≡◌, IfOk, true};
 ghost use Rattle.arr_elab.specs.Recording.{is_recording};
 
-use arr_cost::Costs;
-use arr_deps::Graph;
 use arr_elab::{Step, elaborate};
-use arr_greedy::greedy;
-use arr_heur::linear;
-use arr_lanes::Spares;
-use arr_law::{Certificate, Charge, Charges, OpList, Places, Record, Records};
 use arr_num::{Code, Elem};
 use arr_ops::{Op, Plan, list_formed};
 use arr_overlap::{Classes, overlaps, repeats};
 use arr_record::{Part, parts};
 use arr_rewrite::rewrite;
-use arr_sets::{Bits, MOST, OpSet, Rows};
+use arr_sets::Bits;
 use arr_store::{Slots, Store};
 use arr_syntax::{ParseFault, parse};
 use arr_view::View;
@@ -46,9 +40,9 @@ fn have_codes(rt: &impl Abort, ops: &[Op], codes: &[Code]) {
     }
 }
 
-/// Whether a recorded list is rewritten and planned.
-fn is_planned(rt: &impl Abort, alloc: Global, list: &[Op]) -> Result<(), AllocError> {
-    assert!(rt; list_formed(list) && list.len() <= MOST as usize);
+/// Whether a recorded list is rewritten.
+fn is_rewritten(rt: &impl Abort, alloc: Global, list: &[Op]) -> Result<(), AllocError> {
+    assert!(rt; list_formed(list));
     let recorded = [
         Code::Range,
         Code::Add,
@@ -65,29 +59,22 @@ fn is_planned(rt: &impl Abort, alloc: Global, list: &[Op]) -> Result<(), AllocEr
         &short,
         &[Code::Range, Code::Add, Code::Sync, Code::Free, Code::Free],
     );
-    let graph = Graph::of(alloc, list)?;
-    let costs = Costs::of(alloc, list)?;
-    let plan = linear(alloc, &graph)?;
-    assert_eq!(rt; plan.blocks.len(), 1);
-    assert_eq!(rt; greedy(alloc, &graph, &costs)?.blocks.len(), 1);
-    assert_eq!(rt; costs.block_cost(alloc, &[1])?, 24);
-    assert_eq!(rt; costs.saving(alloc, &[1], &[2])?, 24);
-    assert_eq!(rt; costs.reads(alloc, &[2])?.len(), 1);
-    assert_eq!(rt; costs.writes(alloc, &[2])?.len(), 1);
     let slots = Slots::for_list(alloc, list)?;
     drop(slots);
     Ok(())
 }
 
 #[test]
-fn a_script_is_recorded_rewritten_and_planned(rt: HostRuntime) -> Result<(), Fail> {
+fn a_script_is_recorded_and_rewritten(rt: HostRuntime) -> Result<(), Fail> {
     let alloc = rt.alloc();
     let steps = steps_of(&rt, alloc, "a = range(3)\nb = a + 1 + 2\nprint b\n")?;
     let recorded = parts(alloc, &steps)?;
     assert_eq!(rt; recorded.len(), 1);
-    match &recorded[0] {
-        Part::Flush(ops) => is_planned(&rt, alloc, ops.list())?,
-        Part::Gather(_) | Part::Scatter(_) => assert!(rt; false),
+    for part in &recorded {
+        match part {
+            Part::Flush(ops) => is_rewritten(&rt, alloc, ops.list())?,
+            Part::Gather(_) | Part::Scatter(_) => assert!(&rt; false),
+        }
     }
     Ok(())
 }
@@ -125,13 +112,6 @@ fn sets_stores_and_plans_are_made(rt: HostRuntime) -> Result<(), Fail> {
     let mut set = Bits::new(alloc, 200)?;
     set.insert(64);
     assert!(rt; set.has(64) && !set.has(65));
-    drop(Spares::new(alloc, 256)?);
-    let mut numbers = OpSet::new(alloc, 200)?;
-    numbers.insert(200);
-    assert!(rt; numbers.has(200) && !numbers.has(1));
-    let mut pairs = Rows::new(alloc, 9)?;
-    pairs.set(9, 1);
-    assert!(rt; pairs.has(9, 1) && !pairs.has(1, 9));
     let mut store = Store::new(alloc)?;
     store.make(alloc, 7, Elem::I32, 3)?;
     store.store(7, 2, -5);
@@ -140,30 +120,5 @@ fn sets_stores_and_plans_are_made(rt: HostRuntime) -> Result<(), Fail> {
     blocks.push([1, 2].to_vec(alloc)?)?;
     let plan = Plan { blocks };
     assert_eq!(rt; plan.copied(alloc)?.blocks.len(), 1);
-    Ok(())
-}
-
-#[test]
-fn certificates_are_made_and_copied(rt: HostRuntime) -> Result<(), Fail> {
-    let alloc = rt.alloc();
-    let mut ops = OpList::new(alloc);
-    ops.push(1)?;
-    let mut charges = Charges::new(alloc);
-    charges.push(Charge { operand: 0, ops })?;
-    let mut tree = Records::new(alloc);
-    tree.push(Record::Worth(charges))?;
-    let mut places = Places::new(alloc);
-    places.push(1)?;
-    let certificate = Certificate {
-        version: 2,
-        number: 1,
-        count: 1,
-        places,
-        cost: 8,
-        bound: 8,
-        tree,
-    };
-    let copy = certificate.copied(alloc)?;
-    assert_eq!(rt; (copy.places.len(), copy.tree.len(), copy.cost), (1, 1, 8));
     Ok(())
 }
