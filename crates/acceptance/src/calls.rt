@@ -1,4 +1,4 @@
-//! A call of each public function that takes memory: it answers something else than want of it.
+//! Calls that take memory: each answers something else than want of it.
 
 ghost use Rattle.std.specs.Prelude.{◌≡◌, IfOk, true};
 ghost use Rattle.arr_elab.specs.Recording.{is_recording};
