@@ -1,5 +1,5 @@
-//! Tests of the whole project, of what no contract says: that want of memory is not answered without cause, by calls of the public
-//! function that takes memory, and how the program meets sources and sinks that fail. No other crate has tests.
+//! Tests of the whole project, of what no contract says: that want of memory is not answered without cause, by calls of public functions
+//! that take memory, and how the program meets sources and sinks that fail. No other crate has tests.
 #![tactic(auto)]
 
 #[cfg(test)]
