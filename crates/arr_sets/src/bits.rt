@@ -76,6 +76,15 @@ impl Bits {
         self.words[index] |= 1 << (at % 64);
     }
 
+    /// Takes the number `at`, which is below the bound, out of the set, if it is there.
+    pub fn remove(&mut self, at: u32)
+        requires { at < length self.old }
+        ensures { self.new ≡ set self.old at false }
+    {
+        let index = at as usize / 64;
+        self.words[index] &= !(1 << (at % 64));
+    }
+
     /// Puts `count` numbers, `from` and those after it, all below the bound, into the set, a word of 64 at a time.
     pub fn insert_run(&mut self, from: u32, count: u32)
         requires { from + count ≤ length self.old }

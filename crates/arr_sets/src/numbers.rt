@@ -13,19 +13,15 @@ pub const MOST: u32 = 256;
 /// A set of numbers from 1 to a bound, a bit for each. A contract sees a flag for each number, that of 1 first.
 #[derive(Debug, Drop)]
 pub struct OpSet {
-    bound: u32,
-    words: Vec<u64>,
+    bits: Bits,
 }
 
 impl Model for OpSet {
-    ghost use Rattle.std.specs.Prelude.{◌≡◌, ◌≤◌, ◌*◌, ◌/◌, ◌+◌, List, Bool, false, ℕ, vec_len};
-    ghost use Rattle.arr_sets.specs.Bits.{is_set, members};
+    ghost use Rattle.std.specs.Prelude.{List, Bool};
 
     ghost Value = { List Bool };
 
-    ghost view = { λ s. members s.words.items s.bound };
-
-    ghost invariant = { λ s. (vec_len s.words ≡ (s.bound + 63) / 64) × ((i : ℕ) → s.bound ≤ i → is_set s.words.items i ≡ false) };
+    ghost view = { λ s. s.bits };
 }
 
 impl OpSet {
@@ -34,10 +30,8 @@ impl OpSet {
         requires { n ≤ MOST }
         ensures { IfOk result (λ s. s ≡ replicate n false) }
     {
-        let count = (n as usize + 63) / 64;
         Ok(OpSet {
-            bound: n,
-            words: vec![in alloc; 0; count]?,
+            bits: Bits::new(alloc, n)?,
         })
     }
 
@@ -47,9 +41,7 @@ impl OpSet {
         requires bound { op ≤ length self.now }
         ensures { result ≡ has_number self.now op }
     {
-        let at = op - 1;
-        let word = self.words[at as usize / 64];
-        word >> (at % 64) & 1 == 1
+        self.bits.has(op - 1)
     }
 
     /// Puts the number `op`, from 1 to the bound, into the set. It takes no memory.
@@ -58,9 +50,7 @@ impl OpSet {
         requires bound { op ≤ length self.old }
         ensures { self.new ≡ set self.old (op - 1) true }
     {
-        let at = op - 1;
-        let index = at as usize / 64;
-        self.words[index] |= 1 << (at % 64);
+        self.bits.insert(op - 1);
     }
 
     /// Takes the number `op`, from 1 to the bound, out of the set, if it is there. It takes no memory.
@@ -69,9 +59,7 @@ impl OpSet {
         requires bound { op ≤ length self.old }
         ensures { self.new ≡ set self.old (op - 1) false }
     {
-        let at = op - 1;
-        let index = at as usize / 64;
-        self.words[index] &= !(1 << (at % 64));
+        self.bits.remove(op - 1);
     }
 
     /// Whether the two sets, of one bound, have a number in common. It takes no memory.
@@ -79,13 +67,7 @@ impl OpSet {
         requires { length self.now ≡ length other.now }
         ensures { result ≡ meets self.now other.now }
     {
-        let other = other.words.as_slice();
-        for (index, word) in self.words.iter().enumerate() {
-            if *word & other[index] != 0 {
-                return true;
-            }
-        }
-        false
+        self.bits.meets(&other.bits)
     }
 }
 
