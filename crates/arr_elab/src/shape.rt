@@ -4,7 +4,7 @@ ghost use Rattle.std.specs.Prelude.{◌≡◌, ◌<◌, ◌≤◌, ◌∷◌, []
 ghost use Rattle.arr_shape.specs.Shapes.{is_shape, dropped_axis, checked_shape, broadcast};
 
 use arr_shape::{ShapeFault, broadcast, checked_shape};
-use arr_view::{Shape, View};
+use arr_view::{MOST_ELEMENTS, Shape, View};
 use std::marker::Model;
 
 /// One to four lengths, none of them 0, and at most 1,048,576 elements.
@@ -47,7 +47,7 @@ impl ArrayShape {
     /// The shape of so many elements in a line.
     pub(crate) fn line(count: u32) -> ArrayShape
         requires some { 1 ≤ count }
-        requires few { count ≤ 1048576 }
+        requires few { count ≤ MOST_ELEMENTS }
         ensures { result ≡ count ∷ [] }
     {
         ArrayShape {

@@ -14,7 +14,7 @@ use crate::operations::type_name;
 use arr_io::{Sink, SinkBuffer, WriteFault};
 use arr_ops::{Op, Operand};
 use arr_store::Slots;
-use arr_view::View;
+use arr_view::{MOST_ELEMENTS, View};
 
 /// Puts a slot's numbers from a position on, one blank between two.
 fn put_row<K: Sink>(
@@ -27,7 +27,7 @@ fn put_row<K: Sink>(
 )
     requires some { 1 ≤ width }
     requires there { start + width ≤ slot_size (slots_of slots.now slot) }
-    requires few { start + width ≤ 1048576 }
+    requires few { start + width ≤ MOST_ELEMENTS }
     ensures { Puts (outgoing K.Sink out.old sink.old) (outgoing K.Sink out.new sink.new)
         (spaced (take width (drop start (numbers_of (slots_of slots.now slot))))) }
 {
@@ -49,7 +49,7 @@ fn put_rows<K: Sink>(
 )
     requires some { 1 ≤ width }
     requires there { count * width ≤ slot_size (slots_of slots.now slot) }
-    requires few { count * width ≤ 1048576 }
+    requires few { count * width ≤ MOST_ELEMENTS }
     ensures { Puts (outgoing K.Sink out.old sink.old) (outgoing K.Sink out.new sink.new)
         (rows count width (numbers_of (slots_of slots.now slot))) }
 {
@@ -79,7 +79,7 @@ fn row_sizes(view: &View) -> (u32, u32)
     ensures width { result.1 ≡ row_width view.now.lengths }
     ensures some { 1 ≤ result.1 }
     ensures all { result.0 * result.1 ≡ positions view.now.lengths }
-    ensures few { positions view.now.lengths ≤ 1048576 }
+    ensures few { positions view.now.lengths ≤ MOST_ELEMENTS }
 {
     match view.shape().last() {
         Some(width) => (view.positions() / *width, *width),

@@ -8,6 +8,7 @@ ghost use Rattle.arr_store.specs.Runs.{LiesIn, run_place, run_places};
 
 use crate::buffer::Buffer;
 use arr_native::Native;
+use arr_view::MOST_ELEMENTS;
 
 /// Numbers of a base that lie a stride apart: where the first stands, how far it is from each to the next, and how many there
 /// are. A stride may be 0 or negative; places and strides are counted in numbers, from 0.
@@ -81,7 +82,7 @@ impl Buffer {
     /// How many bytes so many numbers of it take.
     #[inline]
     pub(crate) fn bytes(&self, count: usize) -> u64
-        requires { count ≤ 1048576 }
+        requires { count ≤ MOST_ELEMENTS }
         ensures value { result ≡ count * width (cell_of self.now).elem }
         ensures few { result ≤ 8388608 }
     {

@@ -8,6 +8,7 @@ use crate::axis::Axis;
 use crate::folds::{copy, fold_row, refill, scan_run};
 use arr_native::Native;
 use arr_num::Code;
+use arr_view::MOST_ELEMENTS;
 
 /// The results of a scan along an axis (docs/LANGUAGE.md, "Opcodes") at the first `count` positions from `position` on, from the
 /// first `count` numbers of `source`, into the front of `out`. The carries are the results of the positions just before, one for
@@ -29,7 +30,7 @@ pub fn scan_strip<T: Native>(
     requires some { 1 ≤ axis.length }
     requires inner { 1 ≤ axis.inner }
     requires inside { position + count ≤ axis.outer * (axis.length * axis.inner) }
-    requires short { position + count ≤ 1048576 }
+    requires short { position + count ≤ MOST_ELEMENTS }
     ensures out { length out.new ≡ length out.old }
     ensures carries { length carries.new ≡ length carries.old }
     ensures scanned { ScansOn (value code T.elem) (T.number start) axis.length axis.inner (entry T.number carries.old) (entry T.number carries.new) (entry T.number out.new) (entry T.number source.now) position 0 count }
@@ -59,7 +60,7 @@ fn scan_lanes<T: Native>(
     requires some { 1 ≤ axis.length }
     requires inner { axis.inner ≡ 1 }
     requires inside { position + count ≤ axis.outer * (axis.length * axis.inner) }
-    requires short { position + count ≤ 1048576 }
+    requires short { position + count ≤ MOST_ELEMENTS }
     ensures out { length out.new ≡ length out.old }
     ensures carries { length carries.new ≡ length carries.old }
     ensures scanned { ScansOn (value code T.elem) (T.number start) axis.length axis.inner (entry T.number carries.old) (entry T.number carries.new) (entry T.number out.new) (entry T.number source.now) position 0 count }
@@ -135,7 +136,7 @@ fn scan_rows<T: Native>(
     requires some { 1 ≤ axis.length }
     requires inner { 1 ≤ axis.inner }
     requires inside { position + count ≤ axis.outer * (axis.length * axis.inner) }
-    requires short { position + count ≤ 1048576 }
+    requires short { position + count ≤ MOST_ELEMENTS }
     ensures out { length out.new ≡ length out.old }
     ensures carries { length carries.new ≡ length carries.old }
     ensures scanned { ScansOn (value code T.elem) (T.number start) axis.length axis.inner (entry T.number carries.old) (entry T.number carries.new) (entry T.number out.new) (entry T.number source.now) position 0 count }

@@ -8,6 +8,7 @@ use crate::axis::Axis;
 use crate::folds::{fold_lane, fold_row};
 use arr_native::Native;
 use arr_num::Code;
+use arr_view::MOST_ELEMENTS;
 
 /// Folds the first `count` numbers of `source`, which stand at the positions from `position` on, into the accumulators of a fold
 /// along an axis (docs/LANGUAGE.md, "Opcodes"). The accumulators, and the positions, stand in row-major order.
@@ -22,11 +23,11 @@ pub fn fold_strip<T: Native>(
     requires code { IsTrue (is_fold code) }
     requires source { count ≤ length source.now }
     requires sums { length sums.old ≡ axis.outer * axis.inner }
-    requires few { length sums.old ≤ 1048576 }
+    requires few { length sums.old ≤ MOST_ELEMENTS }
     requires some { 1 ≤ axis.length }
     requires inner { 1 ≤ axis.inner }
     requires inside { position + count ≤ axis.outer * (axis.length * axis.inner) }
-    requires short { position + count ≤ 1048576 }
+    requires short { position + count ≤ MOST_ELEMENTS }
     ensures length { length sums.new ≡ length sums.old }
     ensures gathered { FoldsOn (value code T.elem) axis.length axis.inner (length sums.old) (entry T.number sums.old) (entry T.number sums.new) (entry T.number source.now) position 0 count }
 {
@@ -52,7 +53,7 @@ fn fold_lanes<T: Native>(
     requires some { 1 ≤ axis.length }
     requires inner { axis.inner ≡ 1 }
     requires inside { position + count ≤ axis.outer * (axis.length * axis.inner) }
-    requires short { position + count ≤ 1048576 }
+    requires short { position + count ≤ MOST_ELEMENTS }
     ensures length { length sums.new ≡ length sums.old }
     ensures gathered { FoldsOn (value code T.elem) axis.length axis.inner (length sums.old) (entry T.number sums.old) (entry T.number sums.new) (entry T.number source.now) position 0 count }
 {
@@ -102,11 +103,11 @@ fn fold_rows<T: Native>(
     requires code { IsTrue (is_fold code) }
     requires source { count ≤ length source.now }
     requires sums { length sums.old ≡ axis.outer * axis.inner }
-    requires few { length sums.old ≤ 1048576 }
+    requires few { length sums.old ≤ MOST_ELEMENTS }
     requires some { 1 ≤ axis.length }
     requires inner { 1 ≤ axis.inner }
     requires inside { position + count ≤ axis.outer * (axis.length * axis.inner) }
-    requires short { position + count ≤ 1048576 }
+    requires short { position + count ≤ MOST_ELEMENTS }
     ensures length { length sums.new ≡ length sums.old }
     ensures gathered { FoldsOn (value code T.elem) axis.length axis.inner (length sums.old) (entry T.number sums.old) (entry T.number sums.new) (entry T.number source.now) position 0 count }
 {
@@ -134,7 +135,7 @@ fn fold_row_part<T: Native>(
     requires code { IsTrue (is_fold code) }
     requires source { from + run ≤ length source.now }
     requires sums { length sums.old ≡ axis.outer * axis.inner }
-    requires few { length sums.old ≤ 1048576 }
+    requires few { length sums.old ≤ MOST_ELEMENTS }
     requires some { 1 ≤ axis.length }
     requires inner { 1 ≤ axis.inner }
     requires row { place % axis.inner + run ≤ axis.inner }

@@ -8,6 +8,7 @@ ghost use Rattle.arr_store.specs.Stored.{cells};
 use crate::buffer::Buffer;
 use crate::runs::Run;
 use crate::store::Store;
+use arr_view::MOST_ELEMENTS;
 
 impl Store {
     /// Copies the numbers of a run of a base to the front of a lane of its type; the bytes loaded rise by the width of that type
@@ -17,7 +18,7 @@ impl Store {
         requires base { IsOf (cell_of lane.old).elem (cells self.old base) }
         requires lane { run.count ≤ length (cell_of lane.old).numbers }
         requires there { LiesIn (size_at (cells self.old base)) run.start run.stride run.count }
-        requires few { run.count ≤ 1048576 }
+        requires few { run.count ≤ MOST_ELEMENTS }
         requires room { self.old.loads < 2 ^ 62 }
         ensures each { (i : ℕ) → i < run.count → get_or (cell_of lane.new).numbers i (pos 0) ≡ number_at (cells self.old base) (run_place run.start run.stride i) }
         ensures elem { (cell_of lane.new).elem ≡ (cell_of lane.old).elem }
@@ -43,7 +44,7 @@ impl Store {
         requires base { IsOf (cell_of lane.now).elem (cells self.old base) }
         requires lane { run.count ≤ length (cell_of lane.now).numbers }
         requires there { LiesIn (size_at (cells self.old base)) run.start run.stride run.count }
-        requires few { run.count ≤ 1048576 }
+        requires few { run.count ≤ MOST_ELEMENTS }
         requires room { self.old.stores < 2 ^ 62 }
         ensures bases { cells self.new ≡ assigned (cells self.old) base (with_run (cells self.old base) run.start run.stride run.count (take run.count (cell_of lane.now).numbers)) }
         ensures loads { self.new.loads ≡ self.old.loads }
