@@ -5,6 +5,7 @@ pub mod Spacing
 pub mod Smaller
 pub mod Columns
 pub mod Runs
+pub mod Leading
 pub mod Steps
 mod ClassesSeen
 mod ClassesMeet

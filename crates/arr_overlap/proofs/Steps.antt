@@ -4,7 +4,7 @@ use Rattle.std.specs.Prelude.{◌==◌, ◌||◌, nat_eq, nat_le, unsigned_abs}
 use Rattle.std.specs.List.{list_all}
 use Rattle.std.proofs.Math.Nat.{mul-le-mul_left, mul_comm}
 use Rattle.std.proofs.lemmas.Int.{ints, unsigned_abs-mul}
-use Rattle.std.proofs.lemmas.Bool.{and_parts, eqb-true, eq-eqb, false≢true, false_from_ne_true, leb-true, leb-false, le-leb}
+use Rattle.std.proofs.lemmas.Bool.{and_parts, eqb-true, eq-eqb, false≢true, false_from_ne_true, leb-true, leb-false, le-leb, lt-leb}
 use Rattle.std.proofs.lemmas.List.{drop_more, drop_all, length-map, map-append}
 use Rattle.std.proofs.lemmas.List.Folds.{list_any-append}
 use Rattle.arr_view.specs.Strided.{Strided}
@@ -12,7 +12,9 @@ use Rattle.arr_view.specs.Views.{at_steps, elements, has, is_place, is_view, pla
 use Rattle.arr_view.proofs.Checks.{lawful, same_rank}
 use Rattle.arr_view.proofs.Counting.{some_position}
 use Rattle.arr_view.proofs.Places.{Inside, length-places, out_steps, steps, steps_is}
-use Rattle.arr_overlap.specs.Strides.{covered}
+use Rattle.arr_overlap.specs.Legs.{both_ways, both_ways_of, reach, AreLegs, IsOpen, LeadTo}
+use Rattle.arr_overlap.specs.declared.legs.Leg.{Leg}
+use Rattle.arr_overlap.proofs.Leading.{behind, of_more_dimensions}
 use Rattle.arr_overlap.proofs.Marking.{found_again, neither, or_true}
 
 -- ---- steps
@@ -32,15 +34,15 @@ steps_on (suc i) k s =
     ap (λ j. steps j s) same ∙ ap (λ t. s +ℤ t) ih ∙ joined
 
 -- d leads as far as some steps of s, fewer than n, up or down
-record Leg (n : ℕ) (s d : ℤ) : Type 0 where
+record Way (n : ℕ) (s d : ℤ) : Type 0 where
   pub many : ℕ
   pub below : many < n
   pub size : unsigned_abs d ≡ many * unsigned_abs s
 
 -- from the i-th step to the j-th
-leg_between : (n : ℕ) (s : ℤ) (i j : ℕ) (x y d : ℤ) → i < n → j < n → x ≡ steps i s → y ≡ steps j s → y ≡ x +ℤ d → Leg n s d
-leg_between n s i j x y d a b e f g =
-    elim (nat_le i j) as (λ t. nat_le i j ≡ t → Leg n s d) [
+way_between : (n : ℕ) (s : ℤ) (i j : ℕ) (x y d : ℤ) → i < n → j < n → x ≡ steps i s → y ≡ steps j s → y ≡ x +ℤ d → Way n s d
+way_between n s i j x y d a b e f g =
+    elim (nat_le i j) as (λ t. nat_le i j ≡ t → Way n s d) [
       | true ↦ λ h.
           let order : i ≤ j = leb-true i j h in
           let apart : i + (j - i) ≡ j = omega arith in
@@ -55,155 +57,108 @@ leg_between n s i j x y d a b e f g =
           record { many = i - j; below = omega arith; size = same ∙ steps_size (i - j) s }
     ] refl
 
--- ---- one leg in each dimension
+-- ---- one way in each dimension
 
 abbrev Each : (ℕ → ℤ → ℤ → Type 0) → List ℕ → List ℤ → List ℤ → Type 0
 Each P [] [] [] = Unit {0}
 Each P (n ∷ ns) (s ∷ ss) (d ∷ ds) = P n s d × Each P ns ss ds
 Each P _ _ _ = ⊥
 
-abbrev Legs : List ℕ → List ℤ → List ℤ → Type 0
-Legs = Each Leg
+abbrev Ways : List ℕ → List ℤ → List ℤ → Type 0
+Ways = Each Way
 
 abbrev total : List ℤ → ℤ
 total [] = pos 0
 total (d ∷ ds) = d +ℤ total ds
 
--- no leg of a stride above w
-abbrev Quiet : ℕ → List ℕ → List ℤ → List ℤ → Type 0
-Quiet w ns ss ds = (k : ℕ) → k < length ns → w < unsigned_abs (get_or ss k (pos 0)) → unsigned_abs (get_or ds k (pos 0)) ≡ 0
+-- half of what the legs of all dimensions reach
+abbrev middle : List ℕ → List ℤ → ℕ
+middle (n ∷ ns) (s ∷ ss) = (n - 1) * unsigned_abs s + middle ns ss
+middle _ _ = 0
 
--- a dimension's part of what is covered
-abbrev pub part : ℕ → ℕ → ℤ → ℕ
-part w n s = cond (nat_le (unsigned_abs s) w) ((n - 1) * unsigned_abs s) 0
-
-leg_covered : (w n : ℕ) (s d : ℤ) → Leg n s d → (w < unsigned_abs s → unsigned_abs d ≡ 0) → unsigned_abs d ≤ part w n s
-leg_covered w n s d leg quiet =
-    elim (nat_le (unsigned_abs s) w) as (λ b. nat_le (unsigned_abs s) w ≡ b → unsigned_abs d ≤ cond b ((n - 1) * unsigned_abs s) 0) [
+twice_middle : (ns : List ℕ) (ss : List ℤ) → reach (both_ways ns ss) ≡ middle ns ss + middle ns ss
+twice_middle [] ss = refl
+twice_middle (n ∷ ns) [] = refl
+twice_middle (n ∷ ns) (s ∷ ss) =
+    let a : ℕ = unsigned_abs s in
+    let ih : reach (both_ways ns ss) ≡ middle ns ss + middle ns ss = twice_middle ns ss in
+    elim (nat_le n 1) as (λ b. nat_le n 1 ≡ b → reach (cond b (both_ways ns ss) (both_ways_of n a ∷ both_ways ns ss)) ≡ ((n - 1) * a + middle ns ss) + ((n - 1) * a + middle ns ss)) [
       | true ↦ λ e.
-          let below : leg.many < n = leg.below in
-          let size : unsigned_abs d ≡ leg.many * unsigned_abs s = leg.size in
-          let grown : unsigned_abs s * leg.many ≤ unsigned_abs s * (n - 1) = mul-le-mul_left (unsigned_abs s) (let l : leg.many ≤ n - 1 = omega arith in l) in
-          let turned : unsigned_abs s * leg.many ≡ leg.many * unsigned_abs s = mul_comm (unsigned_abs s) leg.many in
-          let turned' : unsigned_abs s * (n - 1) ≡ (n - 1) * unsigned_abs s = mul_comm (unsigned_abs s) (n - 1) in
+          let short : n ≤ 1 = leb-true n 1 e in
+          let none : (n - 1) * a ≡ 0 = ap (λ k. k * a) (let o : n - 1 ≡ 0 = omega arith in o) ∙ (let z : 0 * a ≡ 0 = omega arith in z) in
           omega arith
       | false ↦ λ e.
-          let above : w < unsigned_abs s = leb-false (unsigned_abs s) w e in
-          let none : unsigned_abs d ≡ 0 = quiet above in
+          let long : 1 < n = leb-false n 1 e in
+          let whole : (n + (n - 1)) - 1 ≡ (n - 1) + (n - 1) = omega arith in
+          let parts : ((n + (n - 1)) - 1) * a ≡ (n - 1) * a + (n - 1) * a = ap (λ k. k * a) whole ∙ (let o : ((n - 1) + (n - 1)) * a ≡ (n - 1) * a + (n - 1) * a = omega arith in o) in
           omega arith
     ] refl
 
-rest_quiet : (w n : ℕ) (s d : ℤ) (ns : List ℕ) (ss ds : List ℤ) → Quiet w (n ∷ ns) (s ∷ ss) (d ∷ ds) → Quiet w ns ss ds
-rest_quiet w n s d ns ss ds q k l = q (suc k) (omega arith)
+-- the ways lead from the middle of the legs to a place
+record Led (ns : List ℕ) (ss ds : List ℤ) : Type 0 where
+  pub place : ℕ
+  pub there : LeadTo (both_ways ns ss) place
+  pub is : pos place ≡ pos (middle ns ss) +ℤ total ds
 
-all_covered : (w : ℕ) (ns : List ℕ) (ss ds : List ℤ) → Legs ns ss ds → Quiet w ns ss ds → unsigned_abs (total ds) ≤ covered w ns ss
-all_covered w [] [] [] legs q = omega arith
-all_covered w [] [] (d ∷ ds) legs q = absurd legs
-all_covered w [] (s ∷ ss) ds legs q = absurd legs
-all_covered w (n ∷ ns) [] ds legs q = absurd legs
-all_covered w (n ∷ ns) (s ∷ ss) [] legs q = absurd legs
-all_covered w (n ∷ ns) (s ∷ ss) (d ∷ ds) legs q =
-    let here : unsigned_abs d ≤ part w n s = leg_covered w n s d legs.0 (q 0 (omega arith)) in
-    let there : unsigned_abs (total ds) ≤ covered w ns ss = all_covered w ns ss ds legs.1 (rest_quiet w n s d ns ss ds q) in
-    let sum : unsigned_abs (d +ℤ total ds) ≤ unsigned_abs d + unsigned_abs (total ds) = omega (arith, ints) in
-    omega arith
-
--- one leg is made up for by the others
-one_covered : (w : ℕ) (ns : List ℕ) (ss ds : List ℤ) → Legs ns ss ds → Quiet w ns ss ds → (k : ℕ) → k < length ns
-    → unsigned_abs (get_or ds k (pos 0)) + part w (get_or ns k 0) (get_or ss k (pos 0)) ≤ unsigned_abs (total ds) + covered w ns ss
-one_covered w [] ss ds legs q k l = absurd (omega arith)
-one_covered w (n ∷ ns) [] ds legs q k l = absurd legs
-one_covered w (n ∷ ns) (s ∷ ss) [] legs q k l = absurd legs
-one_covered w (n ∷ ns) (s ∷ ss) (d ∷ ds) legs q zero l =
-    let there : unsigned_abs (total ds) ≤ covered w ns ss = all_covered w ns ss ds legs.1 (rest_quiet w n s d ns ss ds q) in
-    let sum : unsigned_abs d ≤ unsigned_abs (d +ℤ total ds) + unsigned_abs (total ds) = omega (arith, ints) in
-    omega arith
-one_covered w (n ∷ ns) (s ∷ ss) (d ∷ ds) legs q (suc k) l =
-    let here : unsigned_abs d ≤ part w n s = leg_covered w n s d legs.0 (q 0 (omega arith)) in
-    let there : unsigned_abs (get_or ds k (pos 0)) + part w (get_or ns k 0) (get_or ss k (pos 0)) ≤ unsigned_abs (total ds) + covered w ns ss =
-    one_covered w ns ss ds legs.1 (rest_quiet w n s d ns ss ds q) k (omega arith) in
-    let sum : unsigned_abs (total ds) ≤ unsigned_abs (d +ℤ total ds) + unsigned_abs d = omega (arith, ints) in
-    omega arith
-
-leg_at : (ns : List ℕ) (ss ds : List ℤ) → Legs ns ss ds → (k : ℕ) → k < length ns → Leg (get_or ns k 0) (get_or ss k (pos 0)) (get_or ds k (pos 0))
-leg_at [] ss ds legs k l = absurd (omega arith)
-leg_at (n ∷ ns) [] ds legs k l = absurd legs
-leg_at (n ∷ ns) (s ∷ ss) [] legs k l = absurd legs
-leg_at (n ∷ ns) (s ∷ ss) (d ∷ ds) legs zero l = legs.0
-leg_at (n ∷ ns) (s ∷ ss) (d ∷ ds) legs (suc k) l = leg_at ns ss ds legs.1 k (omega arith)
-
--- ---- legs that lead nowhere in all
-
--- each dimension longer than 1 steps over what is covered
-abbrev pub Over : (ℕ → ℕ) → List ℕ → List ℤ → Type 0
-Over cover ns ss = (k : ℕ) → k < length ns → 1 < get_or ns k 0 → cover (unsigned_abs (get_or ss k (pos 0))) < get_or ns k 0 * unsigned_abs (get_or ss k (pos 0))
-
-abbrev Covers : (ℕ → ℕ) → List ℕ → List ℤ → Type 0
-Covers cover ns ss = (w : ℕ) → covered w ns ss ≤ cover w
-
--- fewer than one step is none
-no_step : (n : ℕ) (s d : ℤ) → Leg n s d → unsigned_abs d < unsigned_abs s → unsigned_abs d ≡ 0
-no_step n s d leg l =
-    elim leg.many as (λ m. leg.many ≡ m → unsigned_abs d ≡ 0) [
-      | zero ↦ λ e. leg.size ∙ ap (λ m. m * unsigned_abs s) e ∙ (let none : 0 * unsigned_abs s ≡ 0 = omega arith in none)
-      | suc m ↦ λ e.
-          let size : unsigned_abs d ≡ suc m * unsigned_abs s = leg.size ∙ ap (λ m. m * unsigned_abs s) e in
-          let grown : unsigned_abs s * 1 ≤ unsigned_abs s * suc m = mul-le-mul_left (unsigned_abs s) (let o : 1 ≤ suc m = omega arith in o) in
-          let turned : unsigned_abs s * suc m ≡ suc m * unsigned_abs s = mul_comm (unsigned_abs s) (suc m) in
-          absurd (omega arith)
+one_way : (n : ℕ) (s d : ℤ) (ns : List ℕ) (ss ds : List ℤ) → 1 < n → Way n s d → Led ns ss ds
+    → (p : ℕ) × (LeadTo (both_ways_of n (unsigned_abs s) ∷ both_ways ns ss) p × (pos p ≡ pos ((n - 1) * unsigned_abs s + middle ns ss) +ℤ (d +ℤ total ds)))
+one_way n s d ns ss ds long way rest =
+    let a : ℕ = unsigned_abs s in
+    let m : ℕ = way.many in
+    let below : m < n = way.below in
+    let size : unsigned_abs d ≡ m * a = way.size in
+    let is : pos rest.place ≡ pos (middle ns ss) +ℤ total ds = rest.is in
+    elim (nat_le (unsigned_abs (d +ℤ pos (m * a))) 0) as (λ b. nat_le (unsigned_abs (d +ℤ pos (m * a))) 0 ≡ b
+    → (p : ℕ) × (LeadTo (both_ways_of n a ∷ both_ways ns ss) p × (pos p ≡ pos ((n - 1) * a + middle ns ss) +ℤ (d +ℤ total ds)))) [
+      | true ↦ λ e.
+          let none : unsigned_abs (d +ℤ pos (m * a)) ≤ 0 = leb-true (unsigned_abs (d +ℤ pos (m * a))) 0 e in
+          let whole : (n - 1) ≡ ((n - 1) - m) + m = omega arith in
+          let parts : (n - 1) * a ≡ ((n - 1) - m) * a + m * a = ap (λ k. k * a) whole ∙ (let o : (((n - 1) - m) + m) * a ≡ ((n - 1) - m) * a + m * a = omega arith in o) in
+          let place : pos (((n - 1) - m) * a + rest.place) ≡ pos ((n - 1) * a + middle ns ss) +ℤ (d +ℤ total ds) = omega (arith, ints) in
+          (((n - 1) - m) * a + rest.place, (record { count = (n - 1) - m; few = omega arith; left = rest.place; sum = refl; on = rest.there }, place))
+      | false ↦ λ e.
+          let some : 0 < unsigned_abs (d +ℤ pos (m * a)) = leb-false (unsigned_abs (d +ℤ pos (m * a))) 0 e in
+          let parts : ((n - 1) + m) * a ≡ (n - 1) * a + m * a = omega arith in
+          let place : pos (((n - 1) + m) * a + rest.place) ≡ pos ((n - 1) * a + middle ns ss) +ℤ (d +ℤ total ds) = omega (arith, ints) in
+          (((n - 1) + m) * a + rest.place, (record { count = (n - 1) + m; few = omega arith; left = rest.place; sum = refl; on = rest.there }, place))
     ] refl
 
-module _ (cover : ℕ → ℕ) (ns : List ℕ) (ss ds : List ℤ) (covers : Covers cover ns ss) (over : Over cover ns ss) (legs : Legs ns ss ds) (nowhere : total ds ≡ pos 0) where
-  top_quiet : (k : ℕ) → k < length ns → Quiet (unsigned_abs (get_or ss k (pos 0))) ns ss ds → unsigned_abs (get_or ds k (pos 0)) ≡ 0
-  top_quiet k l q =
-      let n : ℕ = get_or ns k 0 in
-      let s : ℤ = get_or ss k (pos 0) in
-      let d : ℤ = get_or ds k (pos 0) in
-      let leg : Leg n s d = leg_at ns ss ds legs k l in
-      elim (nat_le n 1) as (λ b. nat_le n 1 ≡ b → unsigned_abs d ≡ 0) [
-        | true ↦ λ e.
-            let short : n ≤ 1 = leb-true n 1 e in
-            let below : leg.many < n = leg.below in
-            let none : leg.many ≡ 0 = omega arith in
-            leg.size ∙ ap (λ m. m * unsigned_abs s) none ∙ (let z : 0 * unsigned_abs s ≡ 0 = omega arith in z)
-        | false ↦ λ e.
-            let long : 1 < n = leb-false n 1 e in
-            let made_up : unsigned_abs d + part (unsigned_abs s) n s ≤ unsigned_abs (total ds) + covered (unsigned_abs s) ns ss = one_covered (unsigned_abs s) ns ss ds legs q k l in
-            let own : part (unsigned_abs s) n s ≡ (n - 1) * unsigned_abs s = ap (λ b. cond b ((n - 1) * unsigned_abs s) 0) (le-leb (unsigned_abs s) (unsigned_abs s) (omega arith)) in
-            let none : unsigned_abs (total ds) ≡ 0 = ap unsigned_abs nowhere in
-            let known : covered (unsigned_abs s) ns ss ≤ cover (unsigned_abs s) = covers (unsigned_abs s) in
-            let beyond : cover (unsigned_abs s) < n * unsigned_abs s = over k l long in
-            let more : n * unsigned_abs s ≡ (n - 1) * unsigned_abs s + unsigned_abs s = one_more_step n (unsigned_abs s) (omega arith) in
-            no_step n s d leg (omega arith)
-      ] refl
-    where
-      one_more_step : (n a : ℕ) → 1 ≤ n → n * a ≡ (n - 1) * a + a
-      one_more_step zero a h = absurd (omega arith)
-      one_more_step (suc m) a h = let same : suc m - 1 ≡ m = omega arith in (let e : suc m * a ≡ m * a + a = omega arith in e) ∙ ap (λ k. k * a + a) (sym same)
+led : (ns : List ℕ) (ss ds : List ℤ) → Ways ns ss ds → Led ns ss ds
+led [] [] [] ways = record { place = 0; there = refl; is = refl }
+led [] [] (d ∷ ds) ways = absurd ways
+led [] (s ∷ ss) ds ways = absurd ways
+led (n ∷ ns) [] ds ways = absurd ways
+led (n ∷ ns) (s ∷ ss) [] ways = absurd ways
+led (n ∷ ns) (s ∷ ss) (d ∷ ds) ways =
+    let rest : Led ns ss ds = led ns ss ds ways.1 in
+    let a : ℕ = unsigned_abs s in
+    let next :
+    (p : ℕ) × (LeadTo (both_ways (n ∷ ns) (s ∷ ss)) p × (pos p ≡ pos ((n - 1) * a + middle ns ss) +ℤ (d +ℤ total ds))) =
+    elim (nat_le n 1) as (λ b. nat_le n 1 ≡ b → (p : ℕ) × (LeadTo (cond b (both_ways ns ss) (both_ways_of n a ∷ both_ways ns ss)) p × (pos p ≡ pos ((n - 1) * a + middle ns ss) +ℤ (d +ℤ total ds)))) [
+      | true ↦ λ e.
+          let short : n ≤ 1 = leb-true n 1 e in
+          let below : ways.0.many < n = ways.0.below in
+          let size : unsigned_abs d ≡ ways.0.many * a = ways.0.size in
+          let still : ways.0.many * a ≡ 0 = ap (λ k. k * a) (let o : ways.0.many ≡ 0 = omega arith in o) ∙ (let z : 0 * a ≡ 0 = omega arith in z) in
+          let none : (n - 1) * a ≡ 0 = ap (λ k. k * a) (let o : n - 1 ≡ 0 = omega arith in o) ∙ (let z : 0 * a ≡ 0 = omega arith in z) in
+          let is : pos rest.place ≡ pos (middle ns ss) +ℤ total ds = rest.is in
+          let place : pos rest.place ≡ pos ((n - 1) * a + middle ns ss) +ℤ (d +ℤ total ds) = omega (arith, ints) in
+          (rest.place, (rest.there, place))
+      | false ↦ λ e. one_way n s d ns ss ds (leb-false n 1 e) ways.0 rest
+    ] refl in
+    record { place = next.0; there = next.1.0; is = next.1.1 }
 
-  quiet_down : (w : ℕ) → Quiet w ns ss ds → Quiet 0 ns ss ds
-  quiet_down zero q = q
-  quiet_down (suc w) q =
-      quiet_down w (λ k l above.
-      let a : ℕ = unsigned_abs (get_or ss k (pos 0)) in
-      elim (a == suc w) as (λ b. (a == suc w) ≡ b → unsigned_abs (get_or ds k (pos 0)) ≡ 0) [
-        | true ↦ λ e. top_quiet k l (subst (λ t. Quiet t ns ss ds) (sym (eqb-true a (suc w) e)) q)
-        | false ↦ λ e.
-            let other : a ≡ suc w → ⊥ = λ f. false≢true (sym e ∙ eq-eqb a (suc w) f) in
-            q k l (omega arith)
-      ] refl)
-
-  all_still : (k : ℕ) → k < length ns → unsigned_abs (get_or ds k (pos 0)) ≡ 0
-  all_still k l = top_quiet k l (λ j m above. quiet_down (most ss) (λ i n high. let low = at_most ss i in absurd (omega arith)) j m (omega arith))
-    where
-      most : List ℤ → ℕ
-      most [] = 0
-      most (s ∷ ss) = unsigned_abs s + most ss
-
-      at_most : (ss : List ℤ) (i : ℕ) → unsigned_abs (get_or ss i (pos 0)) ≤ most ss
-      at_most [] i = omega arith
-      at_most (s ∷ ss) zero = omega arith
-      at_most (s ∷ ss) (suc i) = let ih : unsigned_abs (get_or ss i (pos 0)) ≤ most ss = at_most ss i in omega arith
+-- ways that make up for some steps close the way back
+closed : (n : ℕ) (s : ℤ) (k : ℕ) (ns : List ℕ) (ss ds : List ℤ) → 1 ≤ k → k < n → Ways ns ss ds → total ds +ℤ pos (k * unsigned_abs s) ≡ pos 0 → IsOpen n (unsigned_abs s) (both_ways ns ss) → ⊥
+closed n s k ns ss ds some few ways sum free =
+    let a : ℕ = unsigned_abs s in
+    let l : Led ns ss ds = led ns ss ds ways in
+    let is : pos l.place ≡ pos (middle ns ss) +ℤ total ds = l.is in
+    let twice : reach (both_ways ns ss) ≡ middle ns ss + middle ns ss = twice_middle ns ss in
+    let whole : k ≡ (k - 1) + 1 = omega arith in
+    let parts : k * a ≡ (k - 1) * a + a = ap (λ i. i * a) whole ∙ (let o : ((k - 1) + 1) * a ≡ (k - 1) * a + a = omega arith in o) in
+    let half : ((k - 1) * a + l.place) + a ≡ middle ns ss = omega (arith, ints) in
+    free.1 ((k - 1) * a + l.place) (omega arith) (record { count = k - 1; few = omega arith; left = l.place; sum = refl; on = l.there })
 
 -- ---- the indices that lead to an element
 
@@ -263,11 +218,11 @@ found (n ∷ ns) (s ∷ ss) z x same inside e =
 
 record Between (ns : List ℕ) (ss xs ys : List ℤ) : Type 0 where
   pub ways : List ℤ
-  pub legs : Legs ns ss ways
+  pub each : Ways ns ss ways
   pub sum : total ys ≡ total xs +ℤ total ways
 
 between : (ns : List ℕ) (ss xs ys : List ℤ) → Each Move ns ss xs → Each Move ns ss ys → Between ns ss xs ys
-between [] [] [] [] a b = record { ways = []; legs = tt; sum = refl }
+between [] [] [] [] a b = record { ways = []; each = tt; sum = refl }
 between [] [] [] (y ∷ ys) a b = absurd b
 between [] [] (x ∷ xs) ys a b = absurd a
 between [] (s ∷ ss) xs ys a b = absurd a
@@ -280,34 +235,39 @@ between (n ∷ ns) (s ∷ ss) (x ∷ xs) (y ∷ ys) a b =
     let way : y ≡ x +ℤ (y -ℤ x) = omega (arith, ints) in
     record {
       ways = (y -ℤ x) ∷ rest.ways;
-      legs = (leg_between n s a.0.index b.0.index x y (y -ℤ x) a.0.below b.0.below a.0.is b.0.is way, rest.legs);
+      each = (way_between n s a.0.index b.0.index x y (y -ℤ x) a.0.below b.0.below a.0.is b.0.is way, rest.each);
       sum = omega (arith, ints);
     }
 
 -- ---- no element is repeated
 
 -- two steps of the first dimension share nothing
-steps_share_nothing : (cover : ℕ → ℕ) (n : ℕ) (s : ℤ) (ns : List ℕ) (ss : List ℤ) (z : ℤ) (x i j : ℕ) → Covers cover (n ∷ ns) (s ∷ ss) → Over cover (n ∷ ns) (s ∷ ss)
-    → i < j → j < n → Found ns ss (z +ℤ steps i s) x → Found ns ss (z +ℤ steps j s) x → ⊥
-steps_share_nothing cover n s ns ss z x i j covers over before below a b =
-    let rest : Between ns ss a.moves b.moves = between ns ss a.moves b.moves a.each b.each in
+steps_share_nothing : (n : ℕ) (s : ℤ) (ns : List ℕ) (ss : List ℤ) (z : ℤ) (x i j : ℕ) → IsOpen n (unsigned_abs s) (both_ways ns ss) → i < j → j < n
+    → Found ns ss (z +ℤ steps i s) x → Found ns ss (z +ℤ steps j s) x → ⊥
+steps_share_nothing n s ns ss z x i j free before below a b =
+    let on_from : Between ns ss a.moves b.moves = between ns ss a.moves b.moves a.each b.each in
+    let back_from : Between ns ss b.moves a.moves = between ns ss b.moves a.moves b.each a.each in
     let d : ℤ = steps (j - i) s in
+    let k : ℕ = (j - i) * unsigned_abs s in
     let apart : i + (j - i) ≡ j = omega arith in
     let on : steps j s ≡ steps i s +ℤ d = ap (λ k. steps k s) (sym apart) ∙ steps_on i (j - i) s in
-    let size : unsigned_abs d ≡ (j - i) * unsigned_abs s = steps_size (j - i) s in
+    let size : unsigned_abs d ≡ k = steps_size (j - i) s in
     let one : pos x ≡ (z +ℤ steps i s) +ℤ total a.moves = a.place in
     let two : pos x ≡ (z +ℤ steps j s) +ℤ total b.moves = b.place in
-    let sums : total b.moves ≡ total a.moves +ℤ total rest.ways = rest.sum in
-    let nowhere : d +ℤ total rest.ways ≡ pos 0 = omega (arith, ints) in
-    let leg : Leg n s d = record { many = j - i; below = omega arith; size = size } in
-    let none : unsigned_abs d ≡ 0 = all_still cover (n ∷ ns) (s ∷ ss) (d ∷ rest.ways) covers over (leg, rest.legs) nowhere 0 (omega arith) in
-    let beyond : cover (unsigned_abs s) < n * unsigned_abs s = over 0 (omega arith) (omega arith) in
-    let grown : unsigned_abs s * 1 ≤ unsigned_abs s * (j - i) = mul-le-mul_left (unsigned_abs s) (let o : 1 ≤ j - i = omega arith in o) in
-    let turned : unsigned_abs s * (j - i) ≡ (j - i) * unsigned_abs s = mul_comm (unsigned_abs s) (j - i) in
-    let still : unsigned_abs s ≡ 0 = omega arith in
-    let product : n * unsigned_abs s ≡ n * 0 = ap (λ a. n * a) still in
-    let empty : n * 0 ≡ 0 = omega arith in
-    omega arith
+    let sums : total b.moves ≡ total a.moves +ℤ total on_from.ways = on_from.sum in
+    let sums' : total a.moves ≡ total b.moves +ℤ total back_from.ways = back_from.sum in
+    let some : 1 ≤ j - i = omega arith in
+    let few : j - i < n = omega arith in
+    elim (nat_le (unsigned_abs (d +ℤ pos k)) 0) as (λ b. nat_le (unsigned_abs (d +ℤ pos k)) 0 ≡ b → ⊥) [
+      | true ↦ λ e.
+          let none : unsigned_abs (d +ℤ pos k) ≤ 0 = leb-true (unsigned_abs (d +ℤ pos k)) 0 e in
+          let down : total back_from.ways +ℤ pos k ≡ pos 0 = omega (arith, ints) in
+          closed n s (j - i) ns ss back_from.ways some few back_from.each down free
+      | false ↦ λ e.
+          let more : 0 < unsigned_abs (d +ℤ pos k) = leb-false (unsigned_abs (d +ℤ pos k)) 0 e in
+          let up : total on_from.ways +ℤ pos k ≡ pos 0 = omega (arith, ints) in
+          closed n s (j - i) ns ss on_from.ways some few on_from.each up free
+    ] refl
 
 fresh_joined : (xs ys : List ℕ) → repeated xs ≡ false → repeated ys ≡ false → ((x : ℕ) → has xs x ≡ true → has ys x ≡ true → ⊥) → repeated (xs ++ ys) ≡ false
 fresh_joined [] ys a b never = b
@@ -334,22 +294,69 @@ fresh_steps f (suc n) s z each never =
     next : (i : ℕ) → z +ℤ (s +ℤ steps i s) ≡ (z +ℤ s) +ℤ steps i s
     next i = omega (arith, ints)
 
-fresh : (cover : ℕ → ℕ) (ns : List ℕ) (ss : List ℤ) (z : ℤ) → length ss ≡ length ns → Covers cover ns ss → Over cover ns ss → Inside ns ss z → repeated (map to_place (places ns ss z)) ≡ false
-fresh cover [] ss z same covers over inside = refl
-fresh cover (n ∷ ns) [] z same covers over inside = refl
-fresh cover (n ∷ ns) (s ∷ ss) z same covers over inside =
-    fresh_steps (places ns ss) n s z
-    (λ i l. fresh cover ns ss (z +ℤ steps i s) (omega arith) (λ w. let all : part w n s + covered w ns ss ≤ cover w = covers w in omega arith)
-    (λ k m long. over (suc k) (omega arith) long) (out_steps is_place (places ns ss) n s z inside i l))
+-- no dimension longer than 1 leads back with those behind it
+abbrev pub AllOpen : List ℕ → List ℤ → Type 0
+AllOpen (n ∷ ns) (s ∷ ss) = (1 < n → IsOpen n (unsigned_abs s) (both_ways ns ss)) × AllOpen ns ss
+AllOpen _ _ = Unit {0}
+
+fresh : (ns : List ℕ) (ss : List ℤ) (z : ℤ) → length ss ≡ length ns → AllOpen ns ss → Inside ns ss z → repeated (map to_place (places ns ss z)) ≡ false
+fresh [] ss z same free inside = refl
+fresh (n ∷ ns) [] z same free inside = refl
+fresh (n ∷ ns) (s ∷ ss) z same free inside =
+    fresh_steps (places ns ss) n s z (λ i l. fresh ns ss (z +ℤ steps i s) (omega arith) free.1 (out_steps is_place (places ns ss) n s z inside i l))
     (λ i j x before below a b.
-    steps_share_nothing cover n s ns ss z x i j covers over before below
+    steps_share_nothing n s ns ss z x i j (free.0 (omega arith)) before below
     (found ns ss (z +ℤ steps i s) x (omega arith) (out_steps is_place (places ns ss) n s z inside i (omega arith)) a)
     (found ns ss (z +ℤ steps j s) x (omega arith) (out_steps is_place (places ns ss) n s z inside j below) b))
 
-pub over_fresh : (v : Strided) → is_view v ≡ true → Over (λ w. covered w v.lengths v.strides) v.lengths v.strides → repeats v ≡ false
+pub open_fresh : (v : Strided) → is_view v ≡ true → AllOpen v.lengths v.strides → repeats v ≡ false
 unfolding elements
-over_fresh v law over =
-    fresh (λ w. covered w v.lengths v.strides) v.lengths v.strides (pos v.start) (same_rank v law) (λ w. let same : covered w v.lengths v.strides ≤ covered w v.lengths v.strides = omega arith in same) over (lawful v law).inside
+open_fresh v law free = fresh v.lengths v.strides (pos v.start) (same_rank v law) free (lawful v law).inside
+
+-- ---- the legs of the dimensions that are behind
+
+pub record Behind (ns : List ℕ) (ss : List ℤ) (k : ℕ) (legs : List Leg) : Type 0 where
+  pub free : AllOpen ns ss
+  pub are : AreLegs k legs
+  pub far : reach legs ≡ reach (both_ways ns ss)
+  pub missed : (t : ℕ) → LeadTo (both_ways ns ss) t → LeadTo legs t
+
+pub behind_none : (ns : List ℕ) (ss : List ℤ) (i k : ℕ) (legs : List Leg) → length ns ≤ i → legs ≡ [] → Behind (drop i ns) (drop i ss) k legs
+behind_none ns ss i k legs end none =
+    subst (λ ms. Behind ms (drop i ss) k legs) (sym (drop_all i ns end))
+    (subst (Behind [] (drop i ss) k) (sym none) (record { free = tt; are = record { few = omega arith; each = refl }; far = refl; missed = λ t h. h }))
+
+pub behind_short : (n : ℕ) (s : ℤ) (ns : List ℕ) (ss : List ℤ) (k m : ℕ) (legs : List Leg) → n ≤ 1 → k ≤ m → Behind ns ss k legs → Behind (n ∷ ns) (s ∷ ss) m legs
+behind_short n s ns ss k m legs short more b =
+    let same : both_ways ns ss ≡ both_ways (n ∷ ns) (s ∷ ss) = ap (λ t. cond t (both_ways ns ss) (both_ways_of n (unsigned_abs s) ∷ both_ways ns ss)) (sym (le-leb n 1 short)) in
+    record {
+      free = (λ long. absurd (omega arith), b.free);
+      are = of_more_dimensions k m legs more b.are;
+      far = b.far ∙ ap reach same;
+      missed = λ t h. b.missed t (subst (λ ls. LeadTo ls t) (sym same) h);
+    }
+
+pub behind_more : (n : ℕ) (s : ℤ) (ns : List ℕ) (ss : List ℤ) (k m : ℕ) (legs more : List Leg) → 1 < n → k + 2 ≤ m → Behind ns ss k legs → IsOpen n (unsigned_abs s) legs → AreLegs (k + 2) more
+    → reach more ≡ reach (both_ways_of n (unsigned_abs s) ∷ legs) → ((t : ℕ) → LeadTo (both_ways_of n (unsigned_abs s) ∷ legs) t → LeadTo more t) → Behind (n ∷ ns) (s ∷ ss) m more
+behind_more n s ns ss k m legs more long high b free are far on =
+    let a : ℕ = unsigned_abs s in
+    let x : Leg = both_ways_of n a in
+    let same : x ∷ both_ways ns ss ≡ both_ways (n ∷ ns) (s ∷ ss) = ap (λ t. cond t (both_ways ns ss) (x ∷ both_ways ns ss)) (sym (lt-leb n 1 long)) in
+    record {
+      free = (λ _. (free.0, λ t half h. free.1 t (half ∙ sym b.far) (behind (record { places = n - 1; step = a }) (both_ways ns ss) legs b.missed t h)), b.free);
+      are = of_more_dimensions (k + 2) m more high are;
+      far = far ∙ ap (λ r. (x.places - 1) * a + r) b.far ∙ ap reach same;
+      missed = λ t h. on t (behind x (both_ways ns ss) legs b.missed t (subst (λ ls. LeadTo ls t) (sym same) h));
+    }
+
+-- one dimension more, counted down
+pub behind_at : (ns : List ℕ) (ss : List ℤ) (i m : ℕ) (legs : List Leg) → length ss ≡ length ns → 1 ≤ i → i ≤ length ns
+    → Behind (get_or ns (i - 1) 0 ∷ drop i ns) (get_or ss (i - 1) (pos 0) ∷ drop i ss) m legs → Behind (drop (i - 1) ns) (drop (i - 1) ss) m legs
+behind_at ns ss i m legs same some low b =
+    let on : (i - 1) + 1 ≡ i = omega arith in
+    let a : drop (i - 1) ns ≡ get_or ns (i - 1) 0 ∷ drop i ns = drop_more ns (i - 1) 0 (omega arith) ∙ ap (λ j. get_or ns (i - 1) 0 ∷ drop j ns) on in
+    let c : drop (i - 1) ss ≡ get_or ss (i - 1) (pos 0) ∷ drop i ss = drop_more ss (i - 1) (pos 0) (omega arith) ∙ ap (λ j. get_or ss (i - 1) (pos 0) ∷ drop j ss) on in
+    subst (λ xs. Behind xs (drop (i - 1) ss) m legs) (sym a) (subst (λ ys. Behind (get_or ns (i - 1) 0 ∷ drop i ns) ys m legs) (sym c) b)
 
 -- ---- an element is repeated
 
@@ -405,10 +412,3 @@ each_length (n ∷ ns) (suc k) some l =
     let grown : positions ns * 1 ≤ positions ns * n = mul-le-mul_left (positions ns) here in
     let turned : positions ns * n ≡ n * positions ns = mul_comm (positions ns) n in
     (ih.0, omega arith)
-
-pub covered_turn : (w : ℕ) (ns : List ℕ) (ss : List ℤ) (i : ℕ) → length ss ≡ length ns → i < length ns
-    → covered w (drop i ns) (drop i ss) ≡ part w (get_or ns i 0) (get_or ss i (pos 0)) + covered w (drop (i + 1) ns) (drop (i + 1) ss)
-covered_turn w ns ss i same l = ap₂ (covered w) (drop_more ns i 0 l) (drop_more ss i (pos 0) (omega arith))
-
-pub covered_end : (w : ℕ) (ns : List ℕ) (ss : List ℤ) (i : ℕ) → length ns ≤ i → covered w (drop i ns) (drop i ss) ≡ 0
-covered_end w ns ss i l = ap (λ ms. covered w ms (drop i ss)) (drop_all i ns l)

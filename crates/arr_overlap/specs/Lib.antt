@@ -2,4 +2,4 @@ pub mod Alike
 pub mod Classes
 pub mod Marks
 pub mod Filters
-pub mod Strides
+pub mod Legs

@@ -3,8 +3,8 @@
 //! The promise: `identical`, `overlaps` and `repeats` are the words of docs/PLANS.md, "Views", on the lists of elements, exactly.
 //! `identical` compares the parts of the views and takes no memory. `overlaps` tells most views apart by their bases, ranges, steps and
 //! columns; where those don't decide, the elements of one view are marked in a row of bits and the other is walked once. `repeats` asks
-//! the strides first: a dimension that stays at one element repeats it, and nothing repeats where each dimension steps over all smaller
-//! steps, as in every slice, row turned round or transposed view of a whole base; what is left is walked once, over such marks. Both
+//! the strides first: a dimension that stays at one element repeats it, and nothing repeats where no steps along the dimensions, fewer
+//! than each one's length, up or down, lead back to where they began; what is left is walked once, over such marks. Both
 //! answer want of memory where the row can't be had. A view with a stride of 1 is marked by runs, words at a time.
 //!
 //! `Classes` numbers the classes of identical views by first sight and knows of each two of them whether they overlap; only making it
@@ -12,13 +12,14 @@
 //!
 //! The definitions are those of arr_view, specs/Views.antt; specs/Classes.antt says which views come first of their class,
 //! specs/Alike.antt says by parts which views are identical, specs/Marks.antt what a row of bits marks, specs/Filters.antt what the
-//! tests without a walk ask, and specs/Strides.antt how far strides lead.
+//! tests without a walk ask, and specs/Legs.antt where steps of given sizes lead.
 #![tactic(auto)]
 
 mod alike;
 mod classes;
 mod filters;
 mod fronts;
+mod legs;
 mod meeting;
 mod strides;
 

@@ -1,35 +1,11 @@
 //! What the strides of a view tell of its repetitions, without a walk.
-ghost use Rattle.std.specs.Prelude.{◌≡◌, ◌≤◌, ◌-◌, ◌*◌, IfSome, IsTrue, true, false};
+ghost use Rattle.std.specs.Prelude.{ℕ, ◌≡◌, ◌≤◌, ◌+◌, ◌∷◌, IfSome, IsTrue, true, false};
 ghost use Rattle.arr_view.specs.Views.{is_view, repeats};
-ghost use Rattle.arr_overlap.specs.Strides.{covered};
+ghost use Rattle.arr_overlap.specs.Legs.{both_ways_of, reach, AreLegs, IsOpen, LeadTo};
 
+use crate::legs::{Leg, add, lead_to, reach};
 use arr_view::View;
-
-/// How far a dimension leads from its first index to its last, in elements.
-fn reach(length: u32, stride: u32) -> u64
-    requires some { 1 ≤ length }
-    requires length { length ≤ 1048576 }
-    requires stride { stride ≤ 2147483648 }
-    ensures value { result ≡ (length - 1) * stride }
-    ensures size { result ≤ 2251799813685248 }
-{
-    u64::from(length - 1) * u64::from(stride)
-}
-
-/// How far, from first to last index, the dimensions lead in all whose strides are at most `size`, up or down, in elements.
-fn covered(view: &View, size: u32) -> u64
-    ensures { result ≡ covered size view.now.lengths view.now.strides }
-{
-    let strides = view.strides();
-    let mut covered = 0;
-    for (axis, length) in view.shape().iter().enumerate() {
-        let stride = strides[axis].unsigned_abs();
-        if stride <= size {
-            covered += reach(*length, stride);
-        }
-    }
-    covered
-}
+use arrayvec::ArrayVec;
 
 /// Whether a dimension longer than 1 stays at one element.
 fn stands_still(view: &View) -> bool
@@ -44,24 +20,50 @@ fn stands_still(view: &View) -> bool
     false
 }
 
-/// Whether each dimension longer than 1 steps over all that the dimensions of smaller strides lead to; dimensions of one stride count
-/// together.
-fn steps_over(view: &View) -> bool
-    ensures { result ≡ true → repeats view.now ≡ false }
+/// Whether some steps of a size, at least one and fewer than a length, lead back to the middle of the legs; where they don't, the legs
+/// are longer then by these steps, up and down.
+fn leads_back(legs: &mut ArrayVec<Leg, 8>, length: u64, step: u64) -> bool
+    requires legs { AreLegs 6 legs.old.items }
+    requires length { (2 ≤ length) × (length ≤ 1048576) }
+    requires step { step ≤ 2147483648 }
+    ensures free { result ≡ false → IsOpen length step legs.old.items }
+    ensures legs { result ≡ false → (k : ℕ) → AreLegs k legs.old.items → AreLegs (k + 2) legs.new.items }
+    ensures reach { result ≡ false → reach legs.new.items ≡ reach (both_ways_of length step ∷ legs.old.items) }
+    ensures missed { result ≡ false → (t : ℕ) → LeadTo (both_ways_of length step ∷ legs.old.items) t → LeadTo legs.new.items t }
+{
+    if step == 0 {
+        return true;
+    }
+    let middle = reach(legs.as_slice()) / 2;
+    let places = length - 1;
+    add(legs, Leg { places, step });
+    if step <= middle && lead_to(legs.as_slice(), middle - step) {
+        return true;
+    }
+    let places = length + 1;
+    add(legs, Leg { places, step });
+    false
+}
+
+/// Whether the strides leave open that two positions have one element: some steps along the dimensions lead back.
+fn may_repeat(view: &View) -> bool
+    ensures { result ≡ false → repeats view.now ≡ false }
 {
     let strides = view.strides();
-    for (axis, length) in view.shape().iter().enumerate() {
-        let stride = strides[axis].unsigned_abs();
-        let next = u64::from(*length) * u64::from(stride);
-        if *length > 1 && covered(view, stride) >= next {
-            return false;
+    let shape = view.shape();
+    let mut legs = ArrayVec::new();
+    for axis in (0..shape.len()).rev() {
+        let length = u64::from(shape[axis]);
+        let step = u64::from(strides[axis].unsigned_abs());
+        if length > 1 && leads_back(&mut legs, length, step) {
+            return true;
         }
     }
-    true
+    false
 }
 
 /// Whether two positions of the view have one element, where its strides tell without a walk: they do where a dimension stays at one
-/// element, and don't where each steps over all smaller steps.
+/// element, and don't where no steps along the dimensions lead back.
 pub(crate) fn told_by_strides(view: &View) -> Option<bool>
     ensures value { IfSome result (λ r. r ≡ repeats view.now) }
     ensures lawful { IsTrue (is_view view.now) }
@@ -70,8 +72,5 @@ pub(crate) fn told_by_strides(view: &View) -> Option<bool>
     if stands_still(view) {
         return Some(true);
     }
-    if steps_over(view) {
-        return Some(false);
-    }
-    None
+    if may_repeat(view) { None } else { Some(false) }
 }

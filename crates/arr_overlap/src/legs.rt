@@ -1,0 +1,76 @@
+//! Where steps of given sizes lead.
+ghost use Rattle.std.specs.Prelude.{ℕ, ◌≡◌, ◌≤◌, ◌<◌, ◌+◌, [], ◌∷◌, true, length};
+ghost use Rattle.arr_overlap.specs.Legs.{reach, AreLegs, LeadTo};
+
+use arrayvec::ArrayVec;
+
+/// Steps of one size, up from 0.
+#[derive(Clone, Copy, Default)]
+pub(crate) struct Leg {
+    /// How many places they lead to, 0 among them.
+    pub(crate) places: u64,
+    /// The size of a step, in elements.
+    pub(crate) step: u64,
+}
+
+/// How far all legs lead, in elements.
+pub(crate) fn reach(legs: &[Leg]) -> u64
+    requires { AreLegs 8 legs.now }
+    ensures value { result ≡ reach legs.now }
+    ensures size { result ≤ 288230376151711744 }
+{
+    let mut reach = 0;
+    for leg in legs {
+        reach += (leg.places - 1) * leg.step;
+    }
+    reach
+}
+
+/// Whether steps along the legs lead from 0 to a target. Only as many steps of a leg are tried as leave what the others reach: few,
+/// where long steps come first.
+pub(crate) fn lead_to(legs: &[Leg], target: u64) -> bool
+    requires { AreLegs 8 legs.now }
+    ensures reached { result ≡ true → LeadTo legs.now target }
+    ensures missed { LeadTo legs.now target → result ≡ true }
+{
+    let Some((leg, others)) = legs.split_first() else {
+        return target == 0;
+    };
+    let least = target.saturating_sub(reach(others)).div_ceil(leg.step);
+    let most = (target / leg.step).min(leg.places - 1);
+    for count in least..most + 1 {
+        if lead_to(others, target - count * leg.step) {
+            return true;
+        }
+    }
+    false
+}
+
+/// The index of the first leg whose steps are no longer than a size, or how many legs there are.
+fn place_for(legs: &[Leg], step: u64) -> usize
+    ensures { result ≤ length legs.now }
+{
+    for (place, leg) in legs.iter().enumerate() {
+        if leg.step <= step {
+            return place;
+        }
+    }
+    legs.len()
+}
+
+/// Adds a leg, long steps first; a leg of the same step is made longer.
+pub(crate) fn add(legs: &mut ArrayVec<Leg, 8>, leg: Leg)
+    requires legs { AreLegs 7 legs.old.items }
+    requires leg { AreLegs 1 (leg ∷ []) }
+    ensures legs { (k : ℕ) → AreLegs k legs.old.items → AreLegs (k + 1) legs.new.items }
+    ensures reach { reach legs.new.items ≡ reach (leg ∷ legs.old.items) }
+    ensures reached { (target : ℕ) → LeadTo legs.new.items target → LeadTo (leg ∷ legs.old.items) target }
+    ensures missed { (target : ℕ) → LeadTo (leg ∷ legs.old.items) target → LeadTo legs.new.items target }
+{
+    let place = place_for(legs.as_slice(), leg.step);
+    if place < legs.len() && legs[place].step == leg.step {
+        legs[place].places += leg.places - 1;
+    } else {
+        legs.insert(place, leg);
+    }
+}
