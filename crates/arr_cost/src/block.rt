@@ -1,11 +1,14 @@
 //! The views that the operations of a block read and write outside it.
 ghost use Rattle.std.specs.Prelude.{◌≡◌, ◌++◌, IfOk, not};
-ghost use Rattle.std.specs.List.{filter};
+ghost use Rattle.std.specs.List.{filter, flat_map};
 ghost use Rattle.std.specs.Option.{option_to_list};
-ghost use Rattle.arr_ops.specs.Costs.{all_reads, all_writes};
-ghost use Rattle.arr_ops.specs.Ops.{creates, freed_by, inputs, makes_base, outputs, view_of};
+ghost use Rattle.arr_view.specs.Views.{identical};
+ghost use Rattle.arr_ops.specs.Costs.{all_reads, all_writes, distinct, reads, writes};
+ghost use Rattle.arr_ops.specs.Ops.{creates, freed_by, inputs, makes_base, outputs, view_of, views};
 
 use crate::NoMemory;
+use crate::distinct::distinct;
+use crate::touches::all_views;
 use arr_ops::{Op, Operand};
 use arr_view::View;
 use std::alloc::Global;
@@ -67,7 +70,7 @@ fn push_write(found: &mut Vec<View>, op: &Op, block: &[Op]) -> Result<(), NoMemo
 }
 
 /// The views that a block reads whose base it does not create.
-pub(crate) fn all_reads(alloc: Global, block: &[Op]) -> Result<Vec<View>, NoMemory>
+fn all_reads(alloc: Global, block: &[Op]) -> Result<Vec<View>, NoMemory>
     ensures { IfOk result (λ found. found.items ≡ all_reads block.now) }
 {
     let mut found = Vec::new(alloc);
@@ -78,11 +81,39 @@ pub(crate) fn all_reads(alloc: Global, block: &[Op]) -> Result<Vec<View>, NoMemo
 }
 
 /// The views that a block writes whose base it does not free, after those found so far.
-pub(crate) fn push_writes(found: &mut Vec<View>, block: &[Op]) -> Result<(), NoMemory>
+fn push_writes(found: &mut Vec<View>, block: &[Op]) -> Result<(), NoMemory>
     ensures { IfOk result (λ done. found.new.items ≡ found.old.items ++ all_writes block.now) }
 {
     for op in block {
         push_write(found, op, block)?;
     }
     Ok(())
+}
+
+/// The views that the operations of a block read and whose base they do not create, each once, in the order of first sight
+/// (docs/PLANS.md, "Cost"). Want of memory is its one refusal.
+pub fn block_reads(alloc: Global, block: &[Op]) -> Result<Vec<View>, NoMemory>
+    ensures { IfOk result (λ found. found.items ≡ reads block.now) }
+{
+    let all = all_reads(alloc, block)?;
+    distinct(alloc, all.as_slice())
+}
+
+/// The views that the operations of a block write and whose base they do not free, each once, in the order of first sight
+/// (docs/PLANS.md, "Cost"). Want of memory is its one refusal.
+pub fn block_writes(alloc: Global, block: &[Op]) -> Result<Vec<View>, NoMemory>
+    ensures { IfOk result (λ found. found.items ≡ writes block.now) }
+{
+    let mut all = Vec::new(alloc);
+    push_writes(&mut all, block)?;
+    distinct(alloc, all.as_slice())
+}
+
+/// The views that the operations of a block read or write, each once, in the order of first sight (docs/PLANS.md, "Cost"). Want of memory is
+/// its one refusal.
+pub fn block_views(alloc: Global, block: &[Op]) -> Result<Vec<View>, NoMemory>
+    ensures { IfOk result (λ found. found.items ≡ distinct identical (flat_map views block.now)) }
+{
+    let all = all_views(alloc, block)?;
+    distinct(alloc, all.as_slice())
 }

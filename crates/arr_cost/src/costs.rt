@@ -6,8 +6,7 @@ ghost use Rattle.arr_ops.specs.Formed.{is_formed};
 ghost use Rattle.arr_ops.specs.Plans.{is_legal, numbered, ops_of};
 
 use crate::NoMemory;
-use crate::block::{all_reads, push_writes};
-use crate::distinct::distinct;
+use crate::block::{block_reads, block_writes};
 use crate::tally::touched_weight;
 use crate::touches::{Touches, table_of};
 use arr_ops::{Op, Plan};
@@ -62,9 +61,10 @@ fn push_if(inside: bool, found: &mut Vec<Op>, op: &Op) -> Result<(), NoMemory>
     Ok(())
 }
 
-/// The operations of a block, in the order of the list.
-fn block_ops(alloc: Global, ops: &[Op], block: &[u32]) -> Result<Vec<Op>, NoMemory>
-    requires { length ops.now ≤ 256 }
+/// The operations of a block, in the order of the list, which has at most `MOST` (docs/PLANS.md, "Legal plans"). Want of memory is its
+/// one refusal.
+pub fn block_ops(alloc: Global, ops: &[Op], block: &[u32]) -> Result<Vec<Op>, NoMemory>
+    requires { length ops.now ≤ MOST }
     ensures { IfOk result (λ found. found.items ≡ ops_of (numbered ops.now) block.now) }
 {
     let mut found = Vec::new(alloc);
@@ -122,8 +122,7 @@ impl Costs {
         ensures { IfOk result (λ found. found.items ≡ reads (ops_of (numbered self.now) block.now)) }
     {
         let ops = block_ops(alloc, self.ops.as_slice(), block)?;
-        let all = all_reads(alloc, ops.as_slice())?;
-        distinct(alloc, all.as_slice())
+        block_reads(alloc, ops.as_slice())
     }
 
     /// The views that a block writes and whose base it does not free, each once, in the order of first sight (docs/PLANS.md, "Cost"). Want of
@@ -132,9 +131,7 @@ impl Costs {
         ensures { IfOk result (λ found. found.items ≡ writes (ops_of (numbered self.now) block.now)) }
     {
         let ops = block_ops(alloc, self.ops.as_slice(), block)?;
-        let mut all = Vec::new(alloc);
-        push_writes(&mut all, ops.as_slice())?;
-        distinct(alloc, all.as_slice())
+        block_writes(alloc, ops.as_slice())
     }
 
     /// What a block costs, in bytes: what the views weigh that it reads or writes outside itself (docs/PLANS.md, "Cost"). Want of memory is

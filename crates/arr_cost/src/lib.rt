@@ -6,6 +6,8 @@
 //! Of each operation a `Costs` keeps, in numbers, which views it touches and what they weigh, so that what a block costs is found without its
 //! operations: each class of identical views is marked once it is counted.
 //!
+//! `block_ops`, `block_reads`, `block_writes` and `block_views` answer for the operations of one block, without a `Costs`.
+//!
 //! The definitions are those of arr_ops, specs/Costs.antt; specs/Touches.antt says which numbers stand for the views.
 #![tactic(auto)]
 
@@ -16,7 +18,8 @@ mod tally;
 mod touches;
 mod weights;
 
-pub use costs::Costs;
+pub use block::{block_reads, block_views, block_writes};
+pub use costs::{Costs, block_ops};
 
 /// Want of memory.
 pub use std::alloc::AllocError as NoMemory;

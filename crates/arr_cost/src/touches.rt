@@ -60,7 +60,7 @@ fn push_views(list: &mut Vec<View>, op: &Op) -> Result<(), NoMemory>
 }
 
 /// The views of the operations, one operation after another.
-fn all_views(alloc: Global, ops: &[Op]) -> Result<Vec<View>, NoMemory>
+pub(crate) fn all_views(alloc: Global, ops: &[Op]) -> Result<Vec<View>, NoMemory>
     ensures { IfOk result (λ all. all.items ≡ flat_map views ops.now) }
 {
     let mut all = Vec::new(alloc);

@@ -6,14 +6,14 @@ use Rattle.std.specs.List.{AllByRecursion, list_all}
 use Rattle.arr_view.specs.Views.{has}
 use Rattle.arr_ops.specs.declared.op.Op.{Op}
 use Rattle.arr_ops.specs.Ops.{fusible, dep}
-use Rattle.arr_ops.specs.Formed.{well_formed, inside_made, may_precede, all_pairs}
-use Rattle.arr_ops.specs.Plans.{numbered, ops_of, holders, place, pair_legal, not_empty}
+use Rattle.arr_ops.specs.Formed.{well_formed, inside_made, is_formed, may_precede, all_pairs}
+use Rattle.arr_ops.specs.Plans.{numbered, ops_of, holders, place, pair_legal, not_empty, is_legal}
 use Rattle.arr_ops.proofs.Pairs.{Pairs, All_weaker, Pairs_All}
 use Rattle.arr_ops.proofs.Tests.{both_left, both_right, all_of, pairs_of, test_all, all_numbered, pairs_numbered}
 use Rattle.arr_ops.proofs.Spots.{Formed, formed_of}
 use Rattle.arr_strips.specs.Laws.{BlocksOfPlans}
 
-all_ops : (P : Op → Type 0) (block : List ℕ) (xs : List (ℕ × Op)) → AllByRecursion (λ (x : ℕ × Op). P x.1) xs → AllByRecursion P (ops_of xs block)
+pub all_ops : (P : Op → Type 0) (block : List ℕ) (xs : List (ℕ × Op)) → AllByRecursion (λ (x : ℕ × Op). P x.1) xs → AllByRecursion P (ops_of xs block)
 all_ops P block [] h = tt
 all_ops P block (x ∷ xs) h = elim (has block x.0) as (λ b. AllByRecursion P (cond b (x.1 ∷ ops_of xs block) (ops_of xs block))) [ true ↦ (h.0, all_ops P block xs h.1) | false ↦ all_ops P block xs h.1 ]
 
@@ -55,8 +55,15 @@ placed_at (c ∷ before) after block i h e =
       | false ↦ λ k. ap suc (placed_at before after block i h k)
     ] e
 
-pub blocks_of_plans : BlocksOfPlans
-blocks_of_plans list before after block formed legal parallel =
+-- what holds of the operations of a block of a legal plan, serial or not
+pub record BlockFacts (ops : List Op) : Type 0 where
+  pub well : list_all well_formed ops ≡ true
+  pub inside : list_all (λ f. list_all (inside_made f) ops) ops ≡ true
+  pub order : all_pairs may_precede ops ≡ true
+  pub fuse : all_pairs fusible ops ≡ true
+
+pub block_facts : (list : List Op) (before after : List (List ℕ)) (block : List ℕ) → is_formed list ≡ true → is_legal list (before ++ block ∷ after) ≡ true → BlockFacts (ops_of (numbered list) block)
+block_facts list before after block formed legal =
     let plan : List (List ℕ) = before ++ block ∷ after in
     let xs : List (ℕ × Op) = numbered list in
     let ops : List Op = ops_of xs block in
@@ -82,6 +89,14 @@ blocks_of_plans list before after block formed legal parallel =
     (all_numbered (λ f. list_all (inside_made f) ops ≡ true) 1 list
     (All_weaker (λ f. AllByRecursion (λ g. inside_made f g ≡ true) list) (λ f. list_all (inside_made f) ops ≡ true)
     (λ f h. test_all (inside_made f) ops (all_ops (λ g. inside_made f g ≡ true) block xs (all_numbered (λ g. inside_made f g ≡ true) 1 list h))) list f.inside)) in
-    ap₂ (λ x y. x && y) (test_all well_formed ops well)
-    (ap₂ (λ x y. x && y) (test_all (λ f. list_all (inside_made f) ops) ops inside)
-    (ap₂ (λ x y. x && y) (test_pairs may_precede ops order) (ap₂ (λ x y. x && y) (test_pairs fusible ops fuse) parallel)))
+    record {
+      well = test_all well_formed ops well;
+      inside = test_all (λ f. list_all (inside_made f) ops) ops inside;
+      order = test_pairs may_precede ops order;
+      fuse = test_pairs fusible ops fuse;
+    }
+
+pub blocks_of_plans : BlocksOfPlans
+blocks_of_plans list before after block formed legal parallel =
+    let f : BlockFacts (ops_of (numbered list) block) = block_facts list before after block formed legal in
+    ap₂ (λ x y. x && y) f.well (ap₂ (λ x y. x && y) f.inside (ap₂ (λ x y. x && y) f.order (ap₂ (λ x y. x && y) f.fuse parallel)))

@@ -1,0 +1,21 @@
+//! Blocks of plans, ready to run.
+//!
+//! A [`Prepared`] is made from a list and a block of one of its legal plans. It holds all that running the block takes: the block's
+//! operations, the views that it loads and stores, the bases for which no buffer is made, and the numbers that it keeps as scratch. So a
+//! block that is prepared runs without taking memory.
+//!
+//! The promise: the operations are those of the block, in list order; reads, writes, contracted bases and the count of numbers are exactly
+//! the definitions of arr_ops (docs/PLANS.md, "Cost" and "Running a block"). Only making one takes memory.
+//!
+//! The definitions: `specs/Prepared.antt` has what a contract sees of a `Prepared` (`PreparedBlock`), which blocks are meant
+//! (`IsBlockOf`), and what holds of the operations of each (`may_share_block`).
+#![tactic(auto)]
+
+mod contracted;
+mod prepared;
+mod scratch;
+
+pub use prepared::Prepared;
+
+/// Want of memory.
+pub use std::alloc::AllocError as NoMemory;

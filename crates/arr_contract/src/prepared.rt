@@ -1,0 +1,139 @@
+//! A block that is ready to run.
+ghost use Rattle.std.specs.Prelude.{◌≡◌, ◌<◌, ◌≤◌, IfOk, IsTrue, get_or, length, pos, set};
+ghost use Rattle.std.specs.List.{list_any};
+ghost use Rattle.arr_ops.specs.Costs.{reads, writes};
+ghost use Rattle.arr_ops.specs.Formed.{is_formed};
+ghost use Rattle.arr_ops.specs.Ops.{serial};
+ghost use Rattle.arr_ops.specs.Plans.{numbered, ops_of};
+ghost use Rattle.arr_ops.specs.Traffic.{contracted, scratch};
+ghost use Rattle.arr_contract.specs.Prepared.{IsBlockOf, may_share_block};
+
+use crate::NoMemory;
+use crate::contracted::contracted;
+use crate::scratch::{scratch, some_serial};
+use arr_cost::{block_ops, block_reads, block_writes};
+use arr_ops::Op;
+use arr_sets::MOST;
+use arr_view::View;
+use std::alloc::Global;
+use std::marker::Model;
+
+/// A block of a legal plan, with all that running it takes (docs/PLANS.md, "Running a block"). A contract sees the block's operations in
+/// list order and the numbers that it keeps as scratch.
+#[derive(Drop)]
+pub struct Prepared {
+    ops: Vec<Op>,
+    read_views: Vec<View>,
+    written_views: Vec<View>,
+    contracted_bases: Vec<u32>,
+    is_serial: bool,
+    numbers: Vec<i128>,
+}
+
+impl Model for Prepared {
+    ghost use Rattle.std.specs.Prelude.{◌≡◌, ◌≤◌, IsTrue, length};
+    ghost use Rattle.std.specs.List.{list_any};
+    ghost use Rattle.arr_ops.specs.Costs.{reads, writes};
+    ghost use Rattle.arr_ops.specs.Ops.{serial};
+    ghost use Rattle.arr_ops.specs.Traffic.{contracted, scratch};
+    ghost use Rattle.arr_contract.specs.Prepared.{PreparedBlock, may_share_block};
+
+    ghost Value = { PreparedBlock };
+
+    ghost view = { λ p. record { ops = p.ops.items; numbers = p.numbers.items } };
+
+    ghost invariant = { λ p. (IsTrue (may_share_block p.ops.items)) × (length p.ops.items ≤ 256) × (p.read_views.items ≡ reads p.ops.items) × (p.written_views.items ≡ writes p.ops.items) × (p.contracted_bases.items ≡ contracted p.ops.items) × (p.is_serial ≡ list_any serial p.ops.items) × (length p.numbers.items ≡ scratch p.ops.items) };
+}
+
+impl Prepared {
+    /// A block of a legal plan of a formed list of at most `MOST` operations, ready to run; the block is given by the numbers of its
+    /// operations, from 1 (docs/PLANS.md, "Running a block"). Want of memory is its one refusal.
+    pub fn of(alloc: Global, ops: &[Op], block: &[u32]) -> Result<Prepared, NoMemory>
+        requires formed { IsTrue (is_formed ops.now) }
+        requires block { IsBlockOf ops.now block.now }
+        requires few { length ops.now ≤ MOST }
+        ensures { IfOk result (λ p. p.ops ≡ ops_of (numbered ops.now) block.now) }
+    {
+        let ops = block_ops(alloc, ops, block)?;
+        let read_views = block_reads(alloc, ops.as_slice())?;
+        let written_views = block_writes(alloc, ops.as_slice())?;
+        let contracted_bases = contracted(alloc, ops.as_slice())?;
+        let is_serial = some_serial(alloc, ops.as_slice())?;
+        let count = scratch(alloc, ops.as_slice())?;
+        let numbers = vec![in alloc; 0; count]?;
+        Ok(Prepared {
+            ops,
+            read_views,
+            written_views,
+            contracted_bases,
+            is_serial,
+            numbers,
+        })
+    }
+
+    /// The block's operations, in list order (docs/PLANS.md, "Running a block"). It takes no memory.
+    pub fn ops(&self) -> &[Op]
+        ensures value { result.now ≡ self.now.ops }
+        ensures block { IsTrue (may_share_block self.now.ops) }
+        ensures few { length self.now.ops ≤ MOST }
+    {
+        self.ops.as_slice()
+    }
+
+    /// The views that the block reads and whose base it does not create, each once, in the order of first sight (docs/PLANS.md, "Cost"). It takes
+    /// no memory.
+    pub fn reads(&self) -> &[View]
+        ensures { result.now ≡ reads self.now.ops }
+    {
+        self.read_views.as_slice()
+    }
+
+    /// The views that the block writes and whose base it does not free, each once, in the order of first sight (docs/PLANS.md, "Cost"). It takes
+    /// no memory.
+    pub fn writes(&self) -> &[View]
+        ensures { result.now ≡ writes self.now.ops }
+    {
+        self.written_views.as_slice()
+    }
+
+    /// The bases that the block both creates and frees, by their numbers, in the order of their creators: no buffer is made for them
+    /// (docs/PLANS.md, "Running a block"). It takes no memory.
+    pub fn contracted(&self) -> &[u32]
+        ensures { result.now ≡ contracted self.now.ops }
+    {
+        self.contracted_bases.as_slice()
+    }
+
+    /// Whether an operation of the block is serial (docs/PLANS.md, "Serial operations and fusibility"). It takes no memory.
+    pub fn serial(&self) -> bool
+        ensures { result ≡ list_any serial self.now.ops }
+    {
+        self.is_serial
+    }
+
+    /// How many numbers the block keeps as scratch (docs/PLANS.md, "Running a block"). It takes no memory.
+    pub fn scratch(&self) -> u64
+        ensures value { result ≡ scratch self.now.ops }
+        ensures numbers { result ≡ length self.now.numbers }
+    {
+        self.numbers.len() as u64
+    }
+
+    /// The number kept at a place, counted from 0 (docs/PLANS.md, "Running a block"). It takes no memory.
+    #[inline]
+    pub fn number(&self, at: u64) -> i128
+        requires { at < length self.now.numbers }
+        ensures { result ≡ get_or self.now.numbers at (pos 0) }
+    {
+        self.numbers[at as usize]
+    }
+
+    /// Changes the number kept at a place, counted from 0; nothing else changes (docs/PLANS.md, "Running a block"). It takes no memory.
+    #[inline]
+    pub fn set_number(&mut self, at: u64, value: i128)
+        requires { at < length self.old.numbers }
+        ensures { self.new ≡ record self.old { numbers = set self.old.numbers at value } }
+    {
+        self.numbers[at as usize] = value;
+    }
+}

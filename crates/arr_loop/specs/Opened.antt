@@ -1,0 +1,33 @@
+-- What opening a block leaves.
+use Rattle.std.specs.Prelude.{ℕ, ◌≡◌, ◌+◌, List, not, cond, map, length, Option, None}
+use Rattle.std.specs.List.{filter}
+use Rattle.arr_view.specs.Strided.{Strided}
+use Rattle.arr_ops.specs.declared.op.Op.{Op}
+use Rattle.arr_ops.specs.Memory.{Cell}
+use Rattle.arr_ops.specs.Ops.{creates, freed_by, outputs}
+use Rattle.arr_ops.specs.Traffic.{created}
+use Rattle.arr_store.specs.Stored.{Stored, cells}
+use Rattle.arr_strips.specs.Columns.{opening}
+
+-- the bases that an operation creates
+abbrev pub made_by : Op → List ℕ
+made_by op = map (λ (o : Strided). o.base) (filter (λ _. op.makes) (outputs op))
+
+-- with zeros for the bases that some operations of a block create and that the block does not free
+abbrev pub opened_for : List Op → List Op → (ℕ → Option Cell) → ℕ → Option Cell
+opened_for ops some f b = cond (freed_by ops b) (f b) (opening some b (f b))
+
+-- the bases that some operations of a block create and that the block does not free
+abbrev pub kept_bases : List Op → List Op → List ℕ
+kept_bases ops some = filter (λ b. not (freed_by ops b)) (created some)
+
+-- the bases before a block was opened: those that it creates were not there
+abbrev pub unopened : List Op → (ℕ → Option Cell) → ℕ → Option Cell
+unopened ops f b = cond (creates ops b) None (f b)
+
+-- a store before and after buffers were made for some operations of a block: one for each of these bases, and nothing else changed
+pub record OpenedFor (ops some : List Op) (before after : Stored) : Type 0 where
+  pub bases : cells after ≡ opened_for ops some (cells before)
+  pub made : after.made ≡ before.made + length (kept_bases ops some)
+  pub loads : after.loads ≡ before.loads
+  pub stores : after.stores ≡ before.stores

@@ -1,0 +1,17 @@
+//! Blocks of plans, run on a store.
+//!
+//! [`open`] makes the buffers that a block needs.
+//!
+//! The promise: `open` makes exactly the buffers of the bases that the block creates and does not free, and nothing else changes; where it is
+//! refused, some first of them may stand.
+//!
+//! The definitions: `specs/Opened.antt` has what opening leaves (`OpenedFor`); the operations of a block are those of arr_contract, and
+//! what they do is `eager` of arr_ops (docs/PLANS.md, "Running a block").
+#![tactic(auto)]
+
+mod opening;
+
+pub use opening::open;
+
+/// Want of memory.
+pub use std::alloc::AllocError as NoMemory;

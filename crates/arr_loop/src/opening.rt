@@ -1,0 +1,68 @@
+//! The buffers that a block needs.
+ghost use Rattle.std.specs.Prelude.{ℕ, ◌≡◌, ◌+◌, ◌≤◌, ◌<◌, ◌^◌, not, OnOk, OnErr, cond, is_none, length, take, true};
+ghost use Rattle.std.specs.List.{filter, list_all};
+ghost use Rattle.arr_view.specs.Views.{has};
+ghost use Rattle.arr_ops.specs.Fits.{fits};
+ghost use Rattle.arr_store.specs.Stored.{cells, memory_of};
+ghost use Rattle.arr_strips.specs.Columns.{opened_by};
+ghost use Rattle.arr_loop.specs.Opened.{OpenedFor, made_by, unopened};
+
+use crate::NoMemory;
+use arr_contract::Prepared;
+use arr_ops::Op;
+use arr_store::Store;
+use std::alloc::Global;
+
+fn has(bases: &[u32], base: u32) -> bool
+    ensures { result ≡ has bases.now base }
+{
+    bases.iter().any(|other| base == *other)
+}
+
+/// Makes the buffer of the base that an operation creates, unless it is a contracted one.
+fn open_base(
+    alloc: Global,
+    op: &Op,
+    contracted: &[u32],
+    store: &mut Store,
+) -> Result<(), NoMemory>
+    requires absent { list_all (λ b. is_none (cells store.old b)) (filter (λ b. not (has contracted.now b)) (made_by op.now)) ≡ true }
+    requires room { store.old.made < 2 ^ 62 }
+    ensures bases { OnOk result ((b : ℕ) → cells store.new b ≡ cond (has contracted.now b) (cells store.old b) (opened_by op.now b (cells store.old b))) }
+    ensures made { OnOk result (store.new.made ≡ store.old.made + length (filter (λ b. not (has contracted.now b)) (made_by op.now))) }
+    ensures one { OnOk result (store.new.made ≤ store.old.made + 1) }
+    ensures loads { store.new.loads ≡ store.old.loads }
+    ensures stores { store.new.stores ≡ store.old.stores }
+    ensures refused { OnErr result (store.new ≡ store.old) }
+{
+    if !op.makes {
+        return Ok(());
+    }
+    match &op.out {
+        Some(out) => {
+            if has(contracted, out.base()) {
+                return Ok(());
+            }
+            store.make(alloc, out.base(), op.to, out.positions())
+        }
+        None => Ok(()),
+    }
+}
+
+/// Makes a buffer of zeros for each base that a block creates and does not free, in list order. The store fits the block's operations,
+/// and fewer than 2^61 buffers were made. Want of memory is its one refusal: then the buffers of some first operations stand, and
+/// nothing else changed (docs/PLANS.md, "Running a block").
+pub fn open(alloc: Global, prepared: &Prepared, store: &mut Store) -> Result<(), NoMemory>
+    requires fit { fits (memory_of store.old) prepared.now.ops ≡ true }
+    requires room { store.old.made < 2 ^ 61 }
+    ensures opened { OnOk result (OpenedFor prepared.now.ops prepared.now.ops store.old store.new) }
+    ensures back { OnOk result (unopened prepared.now.ops (cells store.new) ≡ cells store.old) }
+    ensures refused { OnErr result ((n : ℕ) × OpenedFor prepared.now.ops (take n prepared.now.ops) store.old store.new) }
+{
+    let ops = prepared.ops();
+    let contracted = prepared.contracted();
+    for op in ops {
+        open_base(alloc, op, contracted, store)?;
+    }
+    Ok(())
+}
