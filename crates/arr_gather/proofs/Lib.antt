@@ -1,6 +1,6 @@
 pub mod Bases
 pub mod Numbers
-pub mod Picking
+pub mod Named
 pub mod Picked
 pub mod Placing
 pub mod Copying
