@@ -1,8 +1,7 @@
 -- The numbers that an index names, in lists of native numbers.
-use Rattle.std.proofs.Common.{◌≡◌, ℕ, zero, suc, ◌+◌, ◌-◌, ◌<◌, ◌≤◌, ℤ, pos, List, [], ◌∷◌, ◌++◌, length, map, get_or, take, drop, true, refl, ap, sym, subst, ◌∙◌, arith, drop-cons}
+use Rattle.std.proofs.Common.{◌≡◌, ℕ, zero, suc, ◌+◌, ◌-◌, ◌<◌, ◌≤◌, ℤ, pos, List, ◌∷◌, length, map, get_or, take, drop, true, refl, ap, sym, ◌∙◌, arith, drop-cons}
 use Rattle.std.proofs.lemmas.Bool.{ltb-true}
-use Rattle.std.proofs.lemmas.List.{drop-map, get_or-map, length-map, map-append, take-map}
-use Rattle.std.proofs.Math.Seq.{take-suc}
+use Rattle.std.proofs.lemmas.List.{drop-map, get_or-map, length-map, take-map}
 use Rattle.std.specs.Prelude.{nat_lt}
 use Rattle.std.specs.List.{range_with_len, slice_range}
 use Rattle.arr_native.proofs.Entries.{entry_is}
@@ -11,7 +10,7 @@ use Rattle.arr_view.specs.Views.{elements, is_consecutive, is_view, positions}
 use Rattle.arr_view.proofs.Checks.{lawful}
 use Rattle.arr_view.proofs.Counting.{some_position}
 use Rattle.arr_ops.proofs.Parts.{length-elements}
-use Rattle.arr_ops.specs.Gathers.{picked, position_named}
+use Rattle.arr_ops.specs.Gathers.{position_named}
 use Rattle.arr_store.proofs.Pages.{passes}
 use Rattle.arr_gather.specs.Steps.{AllBelow, number_named, numbers_of}
 use Rattle.arr_gather.proofs.Rows.{in_row, row_at}
@@ -30,15 +29,6 @@ named_at number ns es n k i x long is below there read =
     sym (entry_is number ns (get_or es k 0) x there read)
     ∙ sym (get_or-map (λ p. get_or (map number ns) p (pos 0)) es k 0 (pos 0) inside)
     ∙ ap (λ p. get_or (numbers_of (map number ns) es) p (pos 0)) (is ∙ ap (λ m. position_named m i) (sym size))
-
--- one more number of an index
-pub picked_more : {I : Type 0} (number : I → ℤ) (source : List ℤ) (index : List I) (k : ℕ) (i : I)
-    → k < length index → i ≡ get_or index k i → picked source (map number (take (k + 1) index)) ≡ picked source (map number (take k index)) ++ number_named source (number i) ∷ []
-picked_more number source index k i below is =
-    let e : take (k + 1) index ≡ take k index ++ i ∷ [] = ap (λ n. take n index) (let n : k + 1 ≡ suc k = omega arith in n) ∙ take-suc index k i below ∙ ap (λ x. take k index ++ x ∷ []) (sym is) in
-    ap (λ xs. picked source (map number xs)) e
-    ∙ ap (picked source) (map-append number (take k index) (i ∷ []))
-    ∙ map-append (number_named source) (map number (take k index)) (number i ∷ [])
 
 -- places one after another
 pub row_is : (ns : List ℤ) (start n : ℕ) → start + n ≤ length ns → numbers_of ns (range_with_len start n) ≡ take n (drop start ns)

@@ -3,7 +3,7 @@ use Rattle.std.proofs.Common.{◌≡◌, ℕ, ◌*◌, ◌≤◌, ℤ, pos, List
 use Rattle.std.proofs.lemmas.Bool.{le-leb}
 use Rattle.std.proofs.lemmas.List.{length-map}
 use Rattle.std.specs.List.{list_all}
-use Rattle.std.specs.Prelude.{◌==◌, ◌&&◌, Bool, nat_le, zero, suc}
+use Rattle.std.specs.Prelude.{◌==◌, nat_le, zero, suc}
 use Rattle.arr_num.specs.Numbers.{in_type, width}
 use Rattle.arr_num.specs.Types.{same_elem, same_elem_is}
 use Rattle.arr_num.specs.declared.elem.Elem.{Elem}

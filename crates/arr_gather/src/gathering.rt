@@ -18,7 +18,13 @@ use std::alloc::{AllocError as NoMemory, Global};
 /// The number of a view that a number of an index names. The numbers of the view's base are given, and it is told how many positions the
 /// view has and whether it has no gap.
 #[inline(always)]
-fn number_named<T: Native, I: Index>(numbers: &[T], view: &View, gapless: bool, count: u32, index: I) -> T
+fn number_named<T: Native, I: Index>(
+    numbers: &[T],
+    view: &View,
+    gapless: bool,
+    count: u32,
+    index: I,
+) -> T
     requires told { gapless ≡ is_consecutive view.now }
     requires count { count ≡ positions view.now.lengths }
     requires some { 0 < count }
@@ -30,7 +36,12 @@ fn number_named<T: Native, I: Index>(numbers: &[T], view: &View, gapless: bool, 
 }
 
 /// The numbers of a view that the numbers of a list name, one after another.
-fn picked_by_row<T: Native, I: Index>(alloc: Global, numbers: &[T], view: &View, index: &[I]) -> Result<Vec<T>, NoMemory>
+fn picked_by_row<T: Native, I: Index>(
+    alloc: Global,
+    numbers: &[T],
+    view: &View,
+    index: &[I],
+) -> Result<Vec<T>, NoMemory>
     requires { AllBelow (length numbers.now) (elements view.now) }
     ensures { IfOk result (λ v. map T.number v.items
         ≡ picked (numbers_of (map T.number numbers.now) (elements view.now)) (map I.number index.now)) }
@@ -68,7 +79,12 @@ fn picked_by_walk<T: Native, I: Index>(
 }
 
 /// The numbers of a gather's new base, where the numbers of the bases of its source and its index are given.
-fn picked_by<T: Native, I: Index>(alloc: Global, op: &Gather, numbers: &[T], index: &[I]) -> Result<Vec<T>, NoMemory>
+fn picked_by<T: Native, I: Index>(
+    alloc: Global,
+    op: &Gather,
+    numbers: &[T],
+    index: &[I],
+) -> Result<Vec<T>, NoMemory>
     requires source { AllBelow (length numbers.now) (elements op.now.source) }
     requires index { AllBelow (length index.now) (elements op.now.index) }
     ensures { IfOk result (λ v. map T.number v.items
@@ -83,7 +99,12 @@ fn picked_by<T: Native, I: Index>(alloc: Global, op: &Gather, numbers: &[T], ind
 }
 
 /// The same, for an index of any type.
-fn picked_by_any<T: Native>(alloc: Global, op: &Gather, numbers: &[T], index: &Buffer) -> Result<Vec<T>, NoMemory>
+fn picked_by_any<T: Native>(
+    alloc: Global,
+    op: &Gather,
+    numbers: &[T],
+    index: &Buffer,
+) -> Result<Vec<T>, NoMemory>
     requires source { AllBelow (length numbers.now) (elements op.now.source) }
     requires index { AllBelow (length (cell_of index.now).numbers) (elements op.now.index) }
     ensures { IfOk result (λ v. map T.number v.items
@@ -106,10 +127,30 @@ fn picked(alloc: Global, op: &Gather, source: &Buffer, index: &Buffer) -> Result
         ≡ picked (numbers_of (cell_of source.now).numbers (elements op.now.source)) (numbers_of (cell_of index.now).numbers (elements op.now.index))) }
 {
     match source {
-        Buffer::Bytes(numbers) => Ok(Buffer::Bytes(picked_by_any(alloc, op, numbers.as_slice(), index)?)),
-        Buffer::Words(numbers) => Ok(Buffer::Words(picked_by_any(alloc, op, numbers.as_slice(), index)?)),
-        Buffer::Longs(numbers) => Ok(Buffer::Longs(picked_by_any(alloc, op, numbers.as_slice(), index)?)),
-        Buffer::Naturals(numbers) => Ok(Buffer::Naturals(picked_by_any(alloc, op, numbers.as_slice(), index)?)),
+        Buffer::Bytes(numbers) => Ok(Buffer::Bytes(picked_by_any(
+            alloc,
+            op,
+            numbers.as_slice(),
+            index,
+        )?)),
+        Buffer::Words(numbers) => Ok(Buffer::Words(picked_by_any(
+            alloc,
+            op,
+            numbers.as_slice(),
+            index,
+        )?)),
+        Buffer::Longs(numbers) => Ok(Buffer::Longs(picked_by_any(
+            alloc,
+            op,
+            numbers.as_slice(),
+            index,
+        )?)),
+        Buffer::Naturals(numbers) => Ok(Buffer::Naturals(picked_by_any(
+            alloc,
+            op,
+            numbers.as_slice(),
+            index,
+        )?)),
     }
 }
 

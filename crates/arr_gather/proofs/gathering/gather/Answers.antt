@@ -1,9 +1,8 @@
-use Rattle.std.proofs.Common.{◌≡◌, ◌∙◌, ◌*◌, ◌+◌, ℕ, ap, sym, arith, length, Some}
+use Rattle.std.proofs.Common.{◌≡◌, ◌∙◌, ◌*◌, ℕ, ap, sym, arith, length, Some}
 use Rattle.std.proofs.lemmas.List.{length-map}
 use Rattle.std.specs.FinMap as finite
 use Rattle.arr_num.specs.Numbers.{width}
 use Rattle.arr_ops.proofs.Parts.{length-elements}
-use Rattle.arr_ops.specs.Costs.{weight_of}
 use Rattle.arr_store.specs.Buffers.{cell_of}
 use Rattle.arr_store.specs.Cells.{assigned}
 use Rattle.arr_store.specs.Stored.{cells}

@@ -1,4 +1,4 @@
-use Rattle.std.proofs.Common.{◌≡◌, ◌∙◌, ◌<◌, ap, sym, arith, length, get_or}
+use Rattle.std.proofs.Common.{◌≡◌, ◌∙◌, ap, sym, arith, length, get_or}
 use Rattle.arr_ops.proofs.Parts.{length-elements}
 use Rattle.arr_view.specs.Views.{elements, positions}
 use Rattle.arr_gather.proofs.Named.{below_at, named_at}

@@ -1,6 +1,6 @@
-use Rattle.std.proofs.Common.{◌≡◌, ◌∙◌, ◌+◌, ◌≤◌, IfOk, ap, sym, subst, arith, rules, length, map}
+use Rattle.std.proofs.Common.{◌≡◌, ◌∙◌, ◌+◌, ◌≤◌, IfOk, ap, sym, subst, arith, length, map}
 use Rattle.arr_ops.specs.Gathers.{picked}
-use Rattle.arr_view.specs.Views.{elements, is_consecutive, positions}
+use Rattle.arr_view.specs.Views.{elements, positions}
 use Rattle.arr_gather.specs.Steps.{numbers_of}
 use Rattle.arr_gather.proofs.Named.{row_inside, row_numbers}
 use Rattle.arr_gather.proofs.gathering.picked_by.Goals as goal

@@ -1,4 +1,4 @@
-use Rattle.std.proofs.Common.{◌≡◌, ◌∙◌, ◌+◌, ◌++◌, List, length, map, ap, sym, subst, refl, arith}
+use Rattle.std.proofs.Common.{◌≡◌, ◌∙◌, ◌++◌, length, map, ap, sym, subst, arith}
 use Rattle.arr_ops.proofs.Parts.{length-elements}
 use Rattle.arr_ops.specs.Gathers.{picked}
 use Rattle.arr_view.specs.Views.{elements, positions}

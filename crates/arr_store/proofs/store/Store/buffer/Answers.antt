@@ -1,7 +1,6 @@
-use Rattle.std.proofs.Common.{◌≡◌, ◌∙◌, ap, sym, subst, IsSome, IsTrue, Some, arith, ◌<◌, length}
+use Rattle.std.proofs.Common.{◌∙◌, ap, sym, subst, arith, ◌<◌, length}
 use Rattle.std.specs.Option.{option_copied}
-use Rattle.arr_store.specs.Buffers.{cell_of}
-use Rattle.arr_store.specs.Stored.{Stored, cells}
+use Rattle.arr_store.specs.Stored.{Stored}
 use Rattle.arr_store.specs.Tables.{IsKept}
 use Rattle.arr_store.proofs.Tables.{in_index, kept_here, none_here}
 use Rattle.arr_store.proofs.store.Store.buffer.Goals as goal

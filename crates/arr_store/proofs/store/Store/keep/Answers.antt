@@ -1,6 +1,6 @@
-use Rattle.std.proofs.Common.{◌≡◌, ◌∙◌, ap, sym, subst, refl, IsTrue, Some, None, ◌<◌, ◌≤◌, length, get_or, set}
+use Rattle.std.proofs.Common.{◌≡◌, ◌∙◌, ap, sym, subst, refl, Some, None, ◌<◌, ◌≤◌, length, get_or, set}
 use Rattle.std.proofs.lemmas.List.{length-set}
-use Rattle.arr_store.specs.Cells.{assigned, lawful}
+use Rattle.arr_store.specs.Cells.{assigned}
 use Rattle.arr_store.specs.Stored.{Stored, cells}
 use Rattle.arr_store.specs.Tables.{IsKept}
 use Rattle.arr_store.specs.declared.store.Kept.{Kept}
