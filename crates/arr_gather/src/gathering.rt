@@ -99,7 +99,7 @@ fn picked_by<T: Native, I: Index>(
 }
 
 /// The same, for an index of any type.
-fn picked_by_any<T: Native>(
+fn picked_from<T: Native>(
     alloc: Global,
     op: &Gather,
     numbers: &[T],
@@ -111,10 +111,10 @@ fn picked_by_any<T: Native>(
         ≡ picked (numbers_of (map T.number numbers.now) (elements op.now.source)) (numbers_of (cell_of index.now).numbers (elements op.now.index))) }
 {
     match index {
-        Buffer::Bytes(index) => picked_by(alloc, op, numbers, index.as_slice()),
-        Buffer::Words(index) => picked_by(alloc, op, numbers, index.as_slice()),
-        Buffer::Longs(index) => picked_by(alloc, op, numbers, index.as_slice()),
-        Buffer::Naturals(index) => picked_by(alloc, op, numbers, index.as_slice()),
+        Buffer::Bytes(index) => picked_by(alloc, op, numbers, index),
+        Buffer::Words(index) => picked_by(alloc, op, numbers, index),
+        Buffer::Longs(index) => picked_by(alloc, op, numbers, index),
+        Buffer::Naturals(index) => picked_by(alloc, op, numbers, index),
     }
 }
 
@@ -127,30 +127,10 @@ fn picked(alloc: Global, op: &Gather, source: &Buffer, index: &Buffer) -> Result
         ≡ picked (numbers_of (cell_of source.now).numbers (elements op.now.source)) (numbers_of (cell_of index.now).numbers (elements op.now.index))) }
 {
     match source {
-        Buffer::Bytes(numbers) => Ok(Buffer::Bytes(picked_by_any(
-            alloc,
-            op,
-            numbers.as_slice(),
-            index,
-        )?)),
-        Buffer::Words(numbers) => Ok(Buffer::Words(picked_by_any(
-            alloc,
-            op,
-            numbers.as_slice(),
-            index,
-        )?)),
-        Buffer::Longs(numbers) => Ok(Buffer::Longs(picked_by_any(
-            alloc,
-            op,
-            numbers.as_slice(),
-            index,
-        )?)),
-        Buffer::Naturals(numbers) => Ok(Buffer::Naturals(picked_by_any(
-            alloc,
-            op,
-            numbers.as_slice(),
-            index,
-        )?)),
+        Buffer::Bytes(numbers) => Ok(Buffer::Bytes(picked_from(alloc, op, numbers, index)?)),
+        Buffer::Words(numbers) => Ok(Buffer::Words(picked_from(alloc, op, numbers, index)?)),
+        Buffer::Longs(numbers) => Ok(Buffer::Longs(picked_from(alloc, op, numbers, index)?)),
+        Buffer::Naturals(numbers) => Ok(Buffer::Naturals(picked_from(alloc, op, numbers, index)?)),
     }
 }
 
