@@ -1,7 +1,7 @@
 -- The numbers of a view, one at a time.
-use Rattle.std.proofs.Common.{◌≡◌, ℕ, ◌<◌, ◌≤◌, [], ◌∷◌, refl, arith, ℤ, pos, List, length, get_or, true, ap, Option, Some, None, FitsSigned}
+use Rattle.std.proofs.Common.{◌≡◌, ℕ, ◌*◌, ◌<◌, ◌≤◌, [], ◌∷◌, refl, arith, ℤ, pos, List, length, get_or, true, ap, Option, Some, None, FitsSigned}
 use Rattle.std.specs.Int.{w128}
-use Rattle.std.proofs.lemmas.Bool.{false≢true, ltb-true}
+use Rattle.std.proofs.lemmas.Bool.{false≢true}
 use Rattle.std.proofs.lemmas.List.{get_or-map, length-map}
 use Rattle.std.specs.List.{list_all}
 use Rattle.std.specs.Prelude.{nat_lt}
@@ -17,7 +17,7 @@ use Rattle.arr_ops.specs.Gathers.{need}
 use Rattle.arr_ops.specs.Memory.{Cell, read}
 use Rattle.arr_ops.proofs.Tests.{both_left, both_right}
 use Rattle.arr_store.specs.Cells.{number_at, size_at, takes, width_at}
-use Rattle.arr_store.proofs.Pages.{passes}
+use Rattle.arr_picks.proofs.Named.{below_at}
 use Rattle.arr_gather.specs.Steps.{Holds}
 
 -- a need that is met: the places lie inside
@@ -26,7 +26,7 @@ places_inside None t v h = absurd (false≢true h)
 places_inside (Some c) t v h = both_right _ _ (both_right (same_elem c.elem t) _ h)
 
 pub element_inside : (f : ℕ → Option Cell) (t : Elem) (v : Strided) (k : ℕ) → Holds f t v → k < length (elements v) → get_or (elements v) k 0 < size_at (f v.base)
-element_inside f t v k h l = ltb-true _ _ (passes (λ e. nat_lt e (size_at (f v.base))) (elements v) k 0 l (places_inside (f v.base) t v h))
+element_inside f t v k h l = below_at (size_at (f v.base)) (elements v) k (places_inside (f v.base) t v h) l
 
 pub length-read : (c : Option Cell) (ps : List ℕ) → length (read c ps) ≡ length ps
 length-read None ps = length-map ps (λ p. pos 0)
@@ -45,6 +45,12 @@ some_width U8 = omega arith
 some_width I32 = omega arith
 some_width I64 = omega arith
 some_width U64 = omega arith
+
+pub some_weight : (t : Elem) (n : ℕ) → 1 ≤ n → 1 ≤ n * width t
+some_weight U8 n some = omega arith
+some_weight I32 n some = omega arith
+some_weight I64 n some = omega arith
+some_weight U64 n some = omega arith
 
 pub counted : (c : Option Cell) (p : ℕ) → p < size_at c → 1 ≤ width_at c
 counted None p l = absurd (omega arith)

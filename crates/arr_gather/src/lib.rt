@@ -18,7 +18,6 @@
 mod feed;
 mod gathering;
 mod places;
-mod position;
 mod scattering;
 
 pub use gathering::gather;

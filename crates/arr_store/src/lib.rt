@@ -19,6 +19,7 @@
 #![tactic(auto)]
 
 mod buffer;
+mod picks;
 mod runs;
 mod slots;
 mod store;

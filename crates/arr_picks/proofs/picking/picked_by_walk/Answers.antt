@@ -4,8 +4,8 @@ use Rattle.arr_ops.specs.Gathers.{picked}
 use Rattle.arr_view.specs.Views.{elements, positions}
 use Rattle.arr_view.proofs.Checks.{lawful}
 use Rattle.arr_view.proofs.Counting.{some_position}
-use Rattle.arr_gather.specs.Steps.{AllBelow, numbers_of}
-use Rattle.arr_gather.proofs.gathering.picked_by_walk.Goals as goal
+use Rattle.arr_picks.specs.Picks.{AllBelow, numbers_of}
+use Rattle.arr_picks.proofs.picking.picked_by_walk.Goals as goal
 
 pub loop-place-init : goal.loop-place-init
 loop-place-init g c =

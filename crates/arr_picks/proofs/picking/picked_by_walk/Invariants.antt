@@ -1,8 +1,8 @@
 use Rattle.std.proofs.Common.{◌≡◌, ◌+◌, ◌++◌, length, map, vec_len, vec_capacity}
 use Rattle.arr_view.specs.Views.{elements, positions}
 use Rattle.arr_ops.specs.Gathers.{picked}
-use Rattle.arr_gather.specs.Steps.{AllBelow, numbers_of}
-use Rattle.arr_gather.proofs.gathering.picked_by_walk.Given as goal
+use Rattle.arr_picks.specs.Picks.{AllBelow, numbers_of}
+use Rattle.arr_picks.proofs.picking.picked_by_walk.Given as goal
 
 abbrev pub invariant-loop-place : goal.invariant-loop-place
 invariant-loop-place g l =

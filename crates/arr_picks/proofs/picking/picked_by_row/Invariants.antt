@@ -1,8 +1,8 @@
 use Rattle.std.proofs.Common.{◌≡◌, length, map, take, vec_len, vec_capacity}
 use Rattle.arr_view.specs.Views.{elements}
 use Rattle.arr_ops.specs.Gathers.{picked}
-use Rattle.arr_gather.specs.Steps.{numbers_of}
-use Rattle.arr_gather.proofs.gathering.picked_by_row.Given as goal
+use Rattle.arr_picks.specs.Picks.{numbers_of}
+use Rattle.arr_picks.proofs.picking.picked_by_row.Given as goal
 
 abbrev pub invariant-loop-number : goal.invariant-loop-number
 invariant-loop-number g l =

@@ -1,8 +1,8 @@
 use Rattle.std.proofs.Common.{◌≡◌, ◌∙◌, ap, sym, arith, length, get_or}
 use Rattle.arr_ops.proofs.Parts.{length-elements}
 use Rattle.arr_view.specs.Views.{elements, positions}
-use Rattle.arr_gather.proofs.Named.{below_at, named_at}
-use Rattle.arr_gather.proofs.gathering.number_named.Goals as goal
+use Rattle.arr_picks.proofs.Named.{below_at, named_at}
+use Rattle.arr_picks.proofs.picking.number_named.Goals as goal
 
 pub bounds-numbers-element_at : goal.bounds-numbers-element_at
 bounds-numbers-element_at g c =

@@ -5,7 +5,7 @@ ghost use Rattle.arr_ops.specs.Gathers.{position_named};
 use arr_native::Native;
 
 /// A number of an index, in its own width.
-pub(crate) trait Index: Native {
+pub trait Index: Native {
     /// The position that it names, of `count` positions: its remainder (docs/LANGUAGE.md, "Gather and scatter").
     fn position(self, count: u32) -> u32
         requires { 0 < count }
@@ -55,7 +55,7 @@ impl Index for u64 {
 
 /// The position that a number of an index names, of `count` positions: its remainder (docs/LANGUAGE.md, "Gather and scatter").
 #[inline]
-pub(crate) fn position_named(number: i128, count: u32) -> u32
+pub fn position_named(number: i128, count: u32) -> u32
     requires { 0 < count }
     ensures value { result ≡ position_named count number }
     ensures below { result < count }

@@ -1,5 +1,5 @@
 -- The numbers that an index names, in lists of native numbers.
-use Rattle.std.proofs.Common.{◌≡◌, ℕ, zero, suc, ◌+◌, ◌-◌, ◌<◌, ◌≤◌, ℤ, pos, List, ◌∷◌, length, map, get_or, take, drop, true, refl, ap, sym, ◌∙◌, arith, drop-cons}
+use Rattle.std.proofs.Common.{◌≡◌, ℕ, zero, suc, ◌+◌, ◌-◌, ◌<◌, ◌≤◌, ℤ, pos, List, [], ◌∷◌, length, map, get_or, take, drop, true, refl, ap, sym, ◌∙◌, arith, drop-cons}
 use Rattle.std.proofs.lemmas.Bool.{ltb-true}
 use Rattle.std.proofs.lemmas.List.{drop-map, get_or-map, length-map, take-map}
 use Rattle.std.specs.Prelude.{nat_lt}
@@ -10,14 +10,16 @@ use Rattle.arr_view.specs.Views.{elements, is_consecutive, is_view, positions}
 use Rattle.arr_view.proofs.Checks.{lawful}
 use Rattle.arr_view.proofs.Counting.{some_position}
 use Rattle.arr_ops.proofs.Parts.{length-elements}
+use Rattle.arr_ops.proofs.Tests.{both_left, both_right}
 use Rattle.arr_ops.specs.Gathers.{position_named}
-use Rattle.arr_store.proofs.Pages.{passes}
-use Rattle.arr_gather.specs.Steps.{AllBelow, number_named, numbers_of}
-use Rattle.arr_gather.proofs.Rows.{in_row, row_at}
+use Rattle.arr_picks.specs.Picks.{AllBelow, number_named, numbers_of}
+use Rattle.arr_picks.proofs.Rows.{in_row, row_at}
 
 -- one of places that lie below n
 pub below_at : (n : ℕ) (es : List ℕ) (k : ℕ) → AllBelow n es → k < length es → get_or es k 0 < n
-below_at n es k all l = ltb-true _ _ (passes (λ e. nat_lt e n) es k 0 l all)
+below_at n [] k all l = absurd (omega arith)
+below_at n (e ∷ es) zero all l = ltb-true e n (both_left (nat_lt e n) _ all)
+below_at n (e ∷ es) (suc k) all l = below_at n es k (both_right (nat_lt e n) _ all) (omega arith)
 
 -- what was read at the place that the index names
 pub named_at : {T : Type 0} (number : T → ℤ) (ns : List T) (es : List ℕ) (n k : ℕ) (i : ℤ) (x : T)

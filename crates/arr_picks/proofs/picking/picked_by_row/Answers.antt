@@ -1,7 +1,7 @@
 use Rattle.std.proofs.Common.{arith}
 use Rattle.arr_view.proofs.Checks.{lawful}
 use Rattle.arr_view.proofs.Counting.{some_position}
-use Rattle.arr_gather.proofs.gathering.picked_by_row.Goals as goal
+use Rattle.arr_picks.proofs.picking.picked_by_row.Goals as goal
 
 pub number_named-requires-clause-some : goal.number_named-requires-clause-some
 number_named-requires-clause-some g c =
