@@ -1,9 +1,8 @@
 -- From a store that fits a gather to the store that it leaves.
-use Rattle.std.proofs.Common.{◌≡◌, ℕ, ◌*◌, ◌+◌, ◌≤◌, [], ◌∷◌, ℤ, List, true, false, cond, refl, ap, sym, ◌∙◌, arith, Option, Some, None}
+use Rattle.std.proofs.Common.{◌≡◌, ℕ, ◌*◌, ◌+◌, ◌≤◌, [], ◌∷◌, ℤ, List, true, false, cond, refl, ap, sym, ◌∙◌, arith, Some, None}
 use Rattle.std.specs.List.{list_all}
 use Rattle.std.specs.Prelude.{◌==◌}
 use Rattle.arr_num.specs.Numbers.{width}
-use Rattle.arr_num.specs.declared.elem.Elem.{Elem}
 use Rattle.arr_view.specs.Views.{is_view, positions}
 use Rattle.arr_view.proofs.Checks.{lawful}
 use Rattle.arr_view.proofs.Counting.{some_position}
@@ -17,7 +16,7 @@ use Rattle.arr_ops.proofs.Tests.{both_left, both_right, same_from_test}
 use Rattle.arr_store.specs.Cells.{assigned, width_at, with_numbers}
 use Rattle.arr_store.specs.Stored.{Stored, cells, memory_of, picked_cell}
 use Rattle.arr_gather.specs.Steps.{Holds, gather_loads, numbers_at}
-use Rattle.arr_gather.proofs.Numbers.{Target, holds_width, some_weight, target_of}
+use Rattle.arr_gather.proofs.Numbers.{holds_width, some_weight, target_of}
 
 -- what a fitting store holds
 pub record Fitting (op : Gather) (s : Stored) : Type 0 where
@@ -67,20 +66,18 @@ pub record Weights (op : Gather) (s : Stored) : Type 0 where
   pub some_stored : 1 ≤ weight_of op.to op.out
   pub some_loaded : 1 ≤ gather_loads op
 
-pub weights : (op : Gather) (s : Stored) → is_gather op ≡ true → gather_fits (memory_of s) op ≡ true → is_view op.index ≡ true → Weights op s
-weights op s h fits law =
+pub weights : (op : Gather) (s : Stored) → is_gather op ≡ true → gather_fits (memory_of s) op ≡ true → Weights op s
+weights op s h fits =
     let n : ℕ = positions op.index.lengths in
-    let some = some_position op.index.lengths (lawful op.index law).lengths in
     let f = fitting op s fits in
-    let w = holds_width (cells s) op.to op.source f.source in
-    let v = holds_width (cells s) op.of op.index f.index in
-    let stored : n * width_at (cells s op.source.base) ≡ weight_of op.to op.out = ap (λ k. n * k) w ∙ sym (same_weight op h) in
-    let index : n * width_at (cells s op.index.base) ≡ weight_of op.of op.index = ap (λ k. n * k) v in
-    let one : 1 ≤ n * width op.to = some_weight op.to n (omega arith) in
-    let same = same_weight op h in
+    let law : is_view op.out ≡ true = both_left _ _ (both_left _ _ h) in
+    let some = some_position op.out.lengths (lawful op.out law).lengths in
+    let one : 1 ≤ weight_of op.to op.out = some_weight op.to (positions op.out.lengths) (omega arith) in
+    let stored : n * width_at (cells s op.source.base) ≡ weight_of op.to op.out = ap (λ k. n * k) (holds_width (cells s) op.to op.source f.source) ∙ sym (same_weight op h) in
+    let index : n * width_at (cells s op.index.base) ≡ weight_of op.of op.index = ap (λ k. n * k) (holds_width (cells s) op.of op.index f.index) in
     record {
       stored = stored;
       loaded = omega arith;
-      some_stored = omega arith;
+      some_stored = one;
       some_loaded = omega arith;
     }

@@ -1,5 +1,5 @@
 -- A view without a gap.
-use Rattle.std.proofs.Common.{◌≡◌, ℕ, suc, ◌+◌, ◌-◌, ◌<◌, pos, ◌<ℤ◌, ◌∷◌, true, get_or, ap, ◌∙◌, arith}
+use Rattle.std.proofs.Common.{◌≡◌, ℕ, ◌+◌, ◌<◌, pos, ◌<ℤ◌, true, get_or, ap, ◌∙◌, arith}
 use Rattle.std.proofs.lemmas.Int.{ints}
 use Rattle.std.proofs.lemmas.List.FromFn.{get_or-range_with_len}
 use Rattle.std.specs.List.{range_with_len}
@@ -22,4 +22,3 @@ starts_low v law =
     let l = lawful v law in
     let high : pos v.start <ℤ pos 1048576 = place_high (pos v.start) (begins_inside v.lengths v.strides (pos v.start) l.lengths (same_rank v law) l.inside) in
     omega (arith, ints)
-

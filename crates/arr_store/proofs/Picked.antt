@@ -1,5 +1,5 @@
 -- What is picked by an index, from the store's cells to the store's cells.
-use Rattle.std.proofs.Common.{◌≡◌, ℕ, ◌<◌, ◌≤◌, ℤ, pos, List, [], ◌∷◌, length, map, get_or, true, ap, ◌∙◌, sym, subst, refl, arith, IsTrue, IsSome, Option, Some, None}
+use Rattle.std.proofs.Common.{◌≡◌, ℕ, ◌≤◌, ℤ, pos, List, [], ◌∷◌, length, map, get_or, true, ap, ◌∙◌, refl, arith, IsTrue, IsSome, Option}
 use Rattle.std.proofs.lemmas.Bool.{le-leb}
 use Rattle.std.proofs.lemmas.List.{length-map}
 use Rattle.std.specs.List.{list_all}
@@ -11,14 +11,13 @@ use Rattle.arr_view.specs.Views.{elements, is_view, positions}
 use Rattle.arr_view.proofs.Checks.{lawful as lawful_view}
 use Rattle.arr_view.proofs.Counting.{some_position}
 use Rattle.arr_ops.specs.Gathers.{picked}
-use Rattle.arr_ops.specs.Memory.{Cell, read}
+use Rattle.arr_ops.specs.Memory.{Cell}
 use Rattle.arr_ops.proofs.Parts.{length-elements}
 use Rattle.arr_ops.proofs.Tests.{both_left, both_right}
 use Rattle.arr_ops.proofs.Typed.{zero_in}
 use Rattle.arr_picks.specs.Picks.{AllBelow, number_named, numbers_of}
 use Rattle.arr_picks.proofs.Named.{below_at}
-use Rattle.arr_store.specs.Cells.{lawful, size_at, with_numbers}
-use Rattle.arr_store.specs.Stored.{Stored, cells, picked_cell}
+use Rattle.arr_store.specs.Cells.{lawful, size_at}
 use Rattle.arr_store.proofs.Lawful.{both}
 use Rattle.arr_store.proofs.Tables.{has_size}
 

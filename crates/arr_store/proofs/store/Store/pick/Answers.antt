@@ -1,4 +1,4 @@
-use Rattle.std.proofs.Common.{◌≡◌, ◌∙◌, ap, sym, subst, arith, length, IsSome}
+use Rattle.std.proofs.Common.{◌≡◌, ◌∙◌, sym, subst, arith, length, IsSome}
 use Rattle.std.proofs.lemmas.List.{length-map}
 use Rattle.arr_ops.proofs.Parts.{length-elements}
 use Rattle.arr_picks.specs.Picks.{numbers_of}
