@@ -1,6 +1,5 @@
 pub mod Bases
 pub mod Numbers
-pub mod Picking
 pub mod Picked
 pub mod Placing
 pub mod Copying

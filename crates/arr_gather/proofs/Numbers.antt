@@ -1,7 +1,7 @@
 -- The numbers of a view, one at a time.
-use Rattle.std.proofs.Common.{◌≡◌, ℕ, ◌<◌, ◌≤◌, [], ◌∷◌, refl, arith, ℤ, pos, List, length, get_or, true, ap, sym, ◌∙◌, subst, Option, Some, None, FitsSigned}
+use Rattle.std.proofs.Common.{◌≡◌, ℕ, ◌*◌, ◌<◌, ◌≤◌, [], ◌∷◌, refl, arith, ℤ, pos, List, length, get_or, true, ap, Option, Some, None, FitsSigned}
 use Rattle.std.specs.Int.{w128}
-use Rattle.std.proofs.lemmas.Bool.{false≢true, ltb-true}
+use Rattle.std.proofs.lemmas.Bool.{false≢true}
 use Rattle.std.proofs.lemmas.List.{get_or-map, length-map}
 use Rattle.std.specs.List.{list_all}
 use Rattle.std.specs.Prelude.{nat_lt}
@@ -13,12 +13,12 @@ use Rattle.arr_view.specs.Strided.{Strided}
 use Rattle.arr_view.specs.Views.{elements}
 use Rattle.arr_ops.specs.Fits.{meets_need}
 use Rattle.arr_num.specs.Types.{same_elem, same_elem_is}
-use Rattle.arr_ops.specs.Gathers.{need, position_named}
+use Rattle.arr_ops.specs.Gathers.{need}
 use Rattle.arr_ops.specs.Memory.{Cell, read}
 use Rattle.arr_ops.proofs.Tests.{both_left, both_right}
 use Rattle.arr_store.specs.Cells.{number_at, size_at, takes, width_at}
-use Rattle.arr_store.proofs.Pages.{passes}
-use Rattle.arr_gather.specs.Steps.{Holds, number_named, numbers_at}
+use Rattle.arr_picks.proofs.Named.{below_at}
+use Rattle.arr_gather.specs.Steps.{Holds}
 
 -- a need that is met: the places lie inside
 pub places_inside : (c : Option Cell) (t : Elem) (v : Strided) → meets_need c (need t v) ≡ true → list_all (λ e. nat_lt e (size_at c)) (elements v) ≡ true
@@ -26,7 +26,7 @@ places_inside None t v h = absurd (false≢true h)
 places_inside (Some c) t v h = both_right _ _ (both_right (same_elem c.elem t) _ h)
 
 pub element_inside : (f : ℕ → Option Cell) (t : Elem) (v : Strided) (k : ℕ) → Holds f t v → k < length (elements v) → get_or (elements v) k 0 < size_at (f v.base)
-element_inside f t v k h l = ltb-true _ _ (passes (λ e. nat_lt e (size_at (f v.base))) (elements v) k 0 l (places_inside (f v.base) t v h))
+element_inside f t v k h l = below_at (size_at (f v.base)) (elements v) k (places_inside (f v.base) t v h) l
 
 pub length-read : (c : Option Cell) (ps : List ℕ) → length (read c ps) ≡ length ps
 length-read None ps = length-map ps (λ p. pos 0)
@@ -35,14 +35,6 @@ length-read (Some c) ps = length-map ps (λ p. get_or c.numbers p (pos 0))
 get_or-read : (c : Option Cell) (ps : List ℕ) (k : ℕ) → k < length ps → get_or (read c ps) k (pos 0) ≡ number_at c (get_or ps k 0)
 get_or-read None ps k l = get_or-map (λ p. pos 0) ps k 0 (pos 0) l
 get_or-read (Some c) ps k l = get_or-map (λ p. get_or c.numbers p (pos 0)) ps k 0 (pos 0) l
-
--- the number of a view that a number of an index names
-pub named_is : (f : ℕ → Option Cell) (v : Strided) (i : ℤ) (n k : ℕ) → length (elements v) ≡ n → k ≡ position_named n i → k < n
-    → number_named (numbers_at f v) i ≡ number_at (f v.base) (get_or (elements v) k 0)
-named_is f v i n k long is below =
-    let inside : k < length (elements v) = subst (λ m. k < m) (sym long) below in
-    ap (λ m. get_or (numbers_at f v) (position_named m i) (pos 0)) (length-read (f v.base) (elements v) ∙ long)
-    ∙ ap (λ p. get_or (numbers_at f v) p (pos 0)) (sym is) ∙ get_or-read (f v.base) (elements v) k inside
 
 pub taken_fits : (c : Option Cell) (z : ℤ) → takes c z ≡ true → FitsSigned w128 z
 taken_fits None z h = absurd (false≢true h)
@@ -53,6 +45,12 @@ some_width U8 = omega arith
 some_width I32 = omega arith
 some_width I64 = omega arith
 some_width U64 = omega arith
+
+pub some_weight : (t : Elem) (n : ℕ) → 1 ≤ n → 1 ≤ n * width t
+some_weight U8 n some = omega arith
+some_weight I32 n some = omega arith
+some_weight I64 n some = omega arith
+some_weight U64 n some = omega arith
 
 pub counted : (c : Option Cell) (p : ℕ) → p < size_at c → 1 ≤ width_at c
 counted None p l = absurd (omega arith)

@@ -9,6 +9,8 @@ use Rattle.arr_view.specs.Views.{has, repeated}
 use Rattle.arr_ops.specs.Gathers.{last_value, later, placed, position_named, value_or}
 use Rattle.arr_ops.specs.Memory.{write}
 use Rattle.arr_ops.proofs.Writes.{or_left, or_right}
+use Rattle.arr_picks.specs.Picks.{numbers_of}
+use Rattle.arr_gather.specs.Feeds.{spot}
 
 -- ---- lists by index
 
@@ -56,21 +58,13 @@ write-read (p ∷ ps) ns = ap (write ps (map (λ q. get_or ns q (pos 0)) ps)) (s
 
 -- ---- the last value of each position
 
--- the numbers at the elements of the target
-abbrev pub numbers_of : List ℕ → List ℤ → List ℤ
-numbers_of ps ns = map (λ p. get_or ns p (pos 0)) ps
-
--- the element of the target that a number of the index names
-abbrev pub spot : List ℕ → ℤ → ℕ
-spot ps i = get_or ps (position_named (length ps) i) 0
-
 none_last : (n q : ℕ) (is xs : List ℤ) → xs ≡ [] → last_value n q is xs ≡ None
 none_last n q [] xs e = refl
 none_last n q (i ∷ is) xs e = ap (last_value n q (i ∷ is)) e
 
-kept : (ps : List ℕ) (is xs ns : List ℤ) → ((q : ℕ) → last_value (length (numbers_of ps ns)) q is xs ≡ None) → placed (numbers_of ps ns) is xs ≡ numbers_of ps ns
+kept : (ps : List ℕ) (is xs ns : List ℤ) → ((q : ℕ) → last_value (length (numbers_of ns ps)) q is xs ≡ None) → placed (numbers_of ns ps) is xs ≡ numbers_of ns ps
 kept ps is xs ns h =
-    let zs : List ℤ = numbers_of ps ns in
+    let zs : List ℤ = numbers_of ns ps in
     ext_get_or (pos 0) (placed zs is xs) zs (length-map-range_with_len (λ q. value_or (last_value (length zs) q is xs) (get_or zs q (pos 0))) 0 (length zs))
     (λ q l.
     let below : q < length zs = omega (arith, length-map-range_with_len (λ q. value_or (last_value (length zs) q is xs) (get_or zs q (pos 0))) 0 (length zs)) in
@@ -85,25 +79,25 @@ one_more n q a x z z' None same other =
 
 -- Each write in turn, and the last value of each position at once, leave the same.
 pub writes_last : (ps : List ℕ) (is xs ns : List ℤ) → repeated ps ≡ false → ((i : ℤ) → position_named (length ps) i < length ps) → ((k : ℕ) → k < length ps → get_or ps k 0 < length ns)
-    → write (map (spot ps) is) xs ns ≡ write ps (placed (numbers_of ps ns) is xs) ns
+    → write (map (spot ps) is) xs ns ≡ write ps (placed (numbers_of ns ps) is xs) ns
 writes_last ps [] xs ns r named inside = sym (ap (λ zs. write ps zs ns) (kept ps [] xs ns (λ q. refl)) ∙ write-read ps ns)
-writes_last ps (i ∷ is) [] ns r named inside = sym (ap (λ zs. write ps zs ns) (kept ps (i ∷ is) [] ns (λ q. none_last (length (numbers_of ps ns)) q (i ∷ is) [] refl)) ∙ write-read ps ns)
+writes_last ps (i ∷ is) [] ns r named inside = sym (ap (λ zs. write ps zs ns) (kept ps (i ∷ is) [] ns (λ q. none_last (length (numbers_of ns ps)) q (i ∷ is) [] refl)) ∙ write-read ps ns)
 writes_last ps (i ∷ is) (x ∷ xs) ns r named inside =
     let a : ℕ = position_named (length ps) i in
     let ms : List ℤ = set ns (get_or ps a 0) x in
-    let n : ℕ = length (numbers_of ps ns) in
+    let n : ℕ = length (numbers_of ns ps) in
     let size : n ≡ length ps = length-map ps (λ p. get_or ns p (pos 0)) in
-    let size' : length (numbers_of ps ms) ≡ length ps = length-map ps (λ p. get_or ms p (pos 0)) in
+    let size' : length (numbers_of ms ps) ≡ length ps = length-map ps (λ p. get_or ms p (pos 0)) in
     let long : length ms ≡ length ns = length-set ns (get_or ps a 0) x in
-    let f : ℕ → ℤ = λ q. value_or (last_value (length (numbers_of ps ms)) q is xs) (get_or (numbers_of ps ms) q (pos 0)) in
-    let g : ℕ → ℤ = λ q. value_or (last_value n q (i ∷ is) (x ∷ xs)) (get_or (numbers_of ps ns) q (pos 0)) in
+    let f : ℕ → ℤ = λ q. value_or (last_value (length (numbers_of ms ps)) q is xs) (get_or (numbers_of ms ps) q (pos 0)) in
+    let g : ℕ → ℤ = λ q. value_or (last_value n q (i ∷ is) (x ∷ xs)) (get_or (numbers_of ns ps) q (pos 0)) in
     let each : (q : ℕ) → q < n → f (0 + q) ≡ g (0 + q) = λ q l.
     let here : 0 + q ≡ q = omega arith in
     let below : q < length ps = omega arith in
-    let old : get_or (numbers_of ps ns) q (pos 0) ≡ get_or ns (get_or ps q 0) (pos 0) = get_or-map (λ p. get_or ns p (pos 0)) ps q 0 (pos 0) below in
-    let new : get_or (numbers_of ps ms) q (pos 0) ≡ get_or ms (get_or ps q 0) (pos 0) = get_or-map (λ p. get_or ms p (pos 0)) ps q 0 (pos 0) below in
-    ap f here ∙ ap (λ m. value_or (last_value m q is xs) (get_or (numbers_of ps ms) q (pos 0))) (size' ∙ sym size)
-    ∙ one_more n q (position_named n i) x (get_or (numbers_of ps ns) q (pos 0)) (get_or (numbers_of ps ms) q (pos 0)) (last_value n q is xs)
+    let old : get_or (numbers_of ns ps) q (pos 0) ≡ get_or ns (get_or ps q 0) (pos 0) = get_or-map (λ p. get_or ns p (pos 0)) ps q 0 (pos 0) below in
+    let new : get_or (numbers_of ms ps) q (pos 0) ≡ get_or ms (get_or ps q 0) (pos 0) = get_or-map (λ p. get_or ms p (pos 0)) ps q 0 (pos 0) below in
+    ap f here ∙ ap (λ m. value_or (last_value m q is xs) (get_or (numbers_of ms ps) q (pos 0))) (size' ∙ sym size)
+    ∙ one_more n q (position_named n i) x (get_or (numbers_of ns ps) q (pos 0)) (get_or (numbers_of ms ps) q (pos 0)) (last_value n q is xs)
     (λ e.
     let same : a ≡ q = ap (λ m. position_named m i) (sym size) ∙ e in
     new ∙ ap (λ k. get_or ms (get_or ps k 0) (pos 0)) (sym same) ∙ get_or-set_same ns (get_or ps a 0) x (pos 0) (inside a (named i)))
@@ -111,8 +105,8 @@ writes_last ps (i ∷ is) (x ∷ xs) ns r named inside =
     new ∙ get_or-set_other ns (get_or ps a 0) (get_or ps q 0) x (pos 0) (λ e. d (ap (λ m. position_named m i) size ∙ sym (one_place ps q a r below (named i) e))) ∙ sym old)
     ∙ ap g (sym here)
     in
-    let lists : placed (numbers_of ps ms) is xs ≡ placed (numbers_of ps ns) (i ∷ is) (x ∷ xs) =
+    let lists : placed (numbers_of ms ps) is xs ≡ placed (numbers_of ns ps) (i ∷ is) (x ∷ xs) =
     ap (λ m. map f (range_with_len 0 m)) (size' ∙ sym size) ∙ map_same f g 0 n each in
     writes_last ps is xs ms r named (λ k l. omega (arith, inside k l))
     ∙ ap (λ zs. write ps zs ms) lists
-    ∙ write-set ps (placed (numbers_of ps ns) (i ∷ is) (x ∷ xs)) ns a x (length-map-range_with_len g 0 n ∙ size) (named i)
+    ∙ write-set ps (placed (numbers_of ns ps) (i ∷ is) (x ∷ xs)) ns a x (length-map-range_with_len g 0 n ∙ size) (named i)

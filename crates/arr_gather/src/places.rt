@@ -1,24 +1,10 @@
 //! The elements of a view, by counting where it has no gap.
-ghost use Rattle.std.specs.Prelude.{◌≡◌, ◌<◌, IsTrue, get_or};
+ghost use Rattle.std.specs.Prelude.{◌≡◌};
 ghost use Rattle.std.specs.Iterator.{YieldsFirst, item_count};
-ghost use Rattle.arr_view.specs.Views.{elements, is_consecutive, is_view, positions};
+ghost use Rattle.arr_view.specs.Views.{elements};
 
 use arr_view::{View, Walk};
 use std::marker::Model;
-
-/// The element at a position of a view, of which it is told whether it has no gap.
-#[inline(always)]
-pub(crate) fn element_at(view: &View, gapless: bool, position: u32) -> u32
-    requires told { gapless ≡ is_consecutive view.now }
-    requires below { position < positions view.now.lengths }
-    ensures value { result ≡ get_or (elements view.now) position 0 }
-    ensures lawful { IsTrue (is_view view.now) }
-{
-    if gapless {
-        return view.start() + position;
-    }
-    view.element(position)
-}
 
 /// Where the elements that are still to come stand: from one place up to another, or where a walk finds them.
 #[derive(Debug, Drop)]

@@ -7,9 +7,8 @@ ghost use Rattle.arr_gather.specs.Feeds.{CanPlace, Places};
 ghost use Rattle.arr_gather.specs.Steps.{scatter_loads};
 
 use crate::feed::{Feed, feed_of};
-use crate::places::element_at;
-use crate::position::position_named;
 use arr_ops::Scatter;
+use arr_picks::{element_at, position_named};
 use arr_store::Store;
 use std::alloc::{AllocError as NoMemory, Global};
 

@@ -4,3 +4,4 @@ pub mod Lawful
 pub mod Updates
 pub mod Pages
 pub mod Places
+pub mod Picked

@@ -5,10 +5,11 @@
 //!
 //! The promise: a store is a finite map from base to type and list of numbers. `load` gives the number that is kept, `store`
 //! changes that one number, `make` adds a base of zeros and `drop_base` takes one away; each raises its own counter and no other,
-//! and none falls. Every number is of its base's type. A refused `make` changes nothing, and only what makes a store, a base or
+//! and none falls. Every number is of its base's type. A refused `make` or `keep` changes nothing, and only what makes a store, a base or
 //! slots takes memory. `load` and `store` take constant time: an index leads from the base to its buffer. `load_run` and
 //! `store_run` move numbers that lie a stride apart ([`Run`]) between a base and a [`Buffer`] of its type, and count each of them;
-//! `put_run` puts such numbers into a slot.
+//! `put_run` puts such numbers into a slot. `buffer` shows the numbers of a base where they stand, and `keep` takes a buffer that was
+//! filled apart for a base that is not there; whoever reads and fills so says by `count` how many bytes that were.
 //!
 //! The definitions: `specs/Stored.antt` has what a contract sees of a store, its bases as a function from numbers to cells (`cells`),
 //! as `Memory` of arr_ops has them, and the memory that is made of them (`memory_of`); `specs/Slots.antt` has the slots as such a
@@ -18,6 +19,7 @@
 #![tactic(auto)]
 
 mod buffer;
+mod picks;
 mod runs;
 mod slots;
 mod store;

@@ -6,6 +6,7 @@ ghost use Rattle.arr_store.specs.Cells.{assigned, blank, number_at, size_at, tak
 ghost use Rattle.arr_store.specs.Stored.{IsLawful, cells};
 
 mod strips;
+mod whole;
 
 use crate::buffer::Buffer;
 use arr_num::Elem;
@@ -76,12 +77,7 @@ impl Store {
         ensures refused { OnErr result (self.new ≡ self.old) }
     {
         let buffer = Buffer::blank(alloc, ty, length)?;
-        self.buffers.reserve(1)?;
-        cover(&mut self.index, base)?;
-        let key = self.buffers.insert_reserved(Kept { base, buffer });
-        self.index[base as usize] = key;
-        self.made += 1;
-        Ok(())
+        self.keep(base, buffer)
     }
 
     /// Ends a base and gives its memory back (docs/PLANS.md, "The store").
@@ -164,7 +160,7 @@ impl Store {
 }
 
 /// Lengthens the index so that it has the base.
-fn cover(index: &mut Vec<usize>, base: u32) -> Result<(), NoMemory>
+pub(crate) fn cover(index: &mut Vec<usize>, base: u32) -> Result<(), NoMemory>
     ensures covered { OnOk result (index.new.items ≡ index.old.items ++ replicate (base + 1 - length index.old.items) 0) }
     ensures refused { OnErr result (index.new.items ≡ index.old.items) }
 {

@@ -2,7 +2,7 @@ use Rattle.std.proofs.Common.{◌≡◌, ◌∙◌, ◌+◌, ◌-◌, ap, sym, a
 use Rattle.std.specs.List.{range_with_len}
 use Rattle.arr_view.specs.Views.{positions}
 use Rattle.arr_view.proofs.Checks.{lawful}
-use Rattle.arr_gather.proofs.Rows.{in_row, starts_low}
+use Rattle.arr_picks.proofs.Rows.{in_row, starts_low}
 use Rattle.arr_gather.proofs.places.Places.new.Goals as goal
 
 pub overflow_add-result : goal.overflow_add-result

@@ -1,7 +1,7 @@
 use Rattle.std.proofs.Common.{◌∙◌, ap, sym, arith, ◌+◌}
 use Rattle.arr_view.proofs.Checks.{lawful}
-use Rattle.arr_gather.proofs.Rows.{row_at, starts_low}
-use Rattle.arr_gather.proofs.places.element_at.Goals as goal
+use Rattle.arr_picks.proofs.Rows.{row_at, starts_low}
+use Rattle.arr_picks.proofs.elements.element_at.Goals as goal
 
 pub overflow_add-result : goal.overflow_add-result
 overflow_add-result c =
