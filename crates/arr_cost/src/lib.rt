@@ -12,11 +12,13 @@
 mod block;
 mod costs;
 mod distinct;
+mod footprints;
 mod tally;
 mod touches;
 mod weights;
 
 pub use costs::Costs;
+pub use footprints::Footprint;
 
 /// Want of memory.
 pub use std::alloc::AllocError as NoMemory;
