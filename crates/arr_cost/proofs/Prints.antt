@@ -18,6 +18,7 @@ use Rattle.arr_cost.specs.declared.touches.Touches.{Touches}
 use Rattle.arr_cost.specs.Footprints.{bases_of, blank, has_bit, is_class, join, keeps, keeps_class, loses, reads_class, row_for, span, weights_of, writes_class, IsFootprint}
 use Rattle.arr_cost.specs.Touches.{base_of, class_of, frees_number, kept, makes_number, outside, same_class, table_of, touch_of, touched_by, touches_of, untouched}
 use Rattle.arr_cost.proofs.Digits.{or_bit, span_alike, span_more}
+use Rattle.arr_cost.proofs.Touched.{any_picked, any_row}
 
 -- ---- one operation
 
@@ -127,3 +128,23 @@ saved_turn ws a b index ra rb shared lost sum some more ea eb h k before first s
 
     there : (rows : List Row) (r : Row) → r ≡ get_or rows index blank → (i : ℕ) → i < 64 → keeps r i ≡ keeps_class rows (64 * index + i)
     there rows r e i l = ap (λ s. keeps s i) (e ∙ sym (row_is rows i l)) ∙ ap (keeps (row_for rows (64 * index + i))) (let z : i ≡ (64 * index + i) % 64 = omega arith in z)
+
+-- number 0 is no operation
+pub none_print : (list : List Op) (rows : List Row) → IsFootprint list (0 ∷ []) rows → IsFootprint list [] rows
+none_print list rows f = record { long = f.long; reads = f.reads; writes = f.writes; makes = f.makes; frees = f.frees }
+
+-- a footprint tells of the operations, however the block is written
+pub same_print : (list : List Op) (x y : List ℕ) (rows : List Row) → ops_of (numbered list) x ≡ ops_of (numbered list) y → IsFootprint list x rows → IsFootprint list y rows
+same_print list x y rows e f = record {
+  long = f.long;
+  reads = λ c l. f.reads c l ∙ same (reads_class c) refl;
+  writes = λ c l. f.writes c l ∙ same (writes_class c) refl;
+  makes = λ c l. f.makes c l ∙ same (makes_number (get_or (bases_of list) c 0)) refl;
+  frees = λ c l. f.frees c l ∙ same (frees_number (get_or (bases_of list) c 0)) refl;
+}
+  where
+    told : (K : Touches → Bool) → K untouched ≡ false → (z : List ℕ) → list_any K (touched_by (table_of list) z) ≡ list_any (λ op. K (touches_of list (flat_map views list) op)) (ops_of (numbered list) z)
+    told K none z = any_row K (touches_of list (flat_map views list)) none list z ∙ sym (any_picked (λ op. K (touches_of list (flat_map views list) op)) list z)
+
+    same : (K : Touches → Bool) → K untouched ≡ false → list_any K (touched_by (table_of list) x) ≡ list_any K (touched_by (table_of list) y)
+    same K none = told K none x ∙ ap (list_any (λ op. K (touches_of list (flat_map views list) op))) e ∙ sym (told K none y)

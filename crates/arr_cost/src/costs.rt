@@ -90,6 +90,14 @@ fn cost_of(alloc: Global, costs: &Costs, block: &[u32]) -> Result<u64, NoMemory>
     Ok(sum)
 }
 
+/// What the block of the one operation with a number touches: nothing, where the list has none.
+fn one_footprint(alloc: Global, costs: &Costs, number: u32) -> Result<Footprint, NoMemory>
+    ensures { IfOk result (λ f. IsFootprint costs.now (number ∷ []) f) }
+{
+    let touches = touches_at(costs.table.as_slice(), number, 3 * costs.table.len());
+    footprint_of(alloc, touches, costs.bases.as_slice())
+}
+
 impl Costs {
     /// The costs of a formed list of at most `MOST` operations, with a copy of the list. Want of memory is its one refusal
     /// (docs/PLANS.md, "Cost").
@@ -178,12 +186,16 @@ impl Costs {
         Ok(first + second - whole)
     }
 
-    /// What the block of the one operation with a number touches (docs/PLANS.md, "Cost"). Want of memory is its one refusal.
-    pub fn footprint(&self, alloc: Global, number: u32) -> Result<Footprint, NoMemory>
-        ensures { IfOk result (λ f. IsFootprint self.now (number ∷ []) f) }
+    /// What a block touches (docs/PLANS.md, "Cost"). Want of memory is its one refusal.
+    pub fn footprint(&self, alloc: Global, block: &[u32]) -> Result<Footprint, NoMemory>
+        ensures { IfOk result (λ f. IsFootprint self.now block.now f) }
     {
-        let touches = touches_at(self.table.as_slice(), number, 3 * self.table.len());
-        footprint_of(alloc, touches, self.bases.as_slice())
+        let mut print = one_footprint(alloc, self, 0)?;
+        for place in 0..block.len() {
+            let other = one_footprint(alloc, self, block[place])?;
+            print = print.joined(alloc, &other)?;
+        }
+        Ok(print)
     }
 
     /// What one block in place of two saves, in bytes, told what each of the two touches: the same as `saving`, and quick

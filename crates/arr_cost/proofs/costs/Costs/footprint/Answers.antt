@@ -1,19 +1,16 @@
-use Rattle.std.proofs.Common.{◌≡◌, ◌∙◌, ◌*◌, ◌≤◌, ◌∷◌, [], List, ℕ, ap, length, map, arith}
-use Rattle.std.specs.List.{flat_map}
-use Rattle.std.proofs.lemmas.List.{length-map}
-use Rattle.arr_view.specs.Strided.{Strided}
-use Rattle.arr_ops.specs.Ops.{views}
-use Rattle.arr_ops.specs.declared.op.Op.{Op}
-use Rattle.arr_cost.specs.Footprints.{bases_of}
-use Rattle.arr_cost.specs.Touches.{base_of}
-use Rattle.arr_cost.proofs.Touched.{few_views}
+use Rattle.std.proofs.Common.{◌∙◌, ◌+◌, ◌++◌, ◌∷◌, [], ℕ, List, get_or, take, refl, sym, subst}
+use Rattle.std.proofs.lemmas.List.{take_all, take_more}
+use Rattle.arr_cost.specs.Footprints.{IsFootprint}
+use Rattle.arr_cost.proofs.Prints.{none_print}
 use Rattle.arr_cost.proofs.costs.Costs.footprint.Goals as goal
 
-pub footprint_of-requires : goal.footprint_of-requires
-footprint_of-requires c =
-    let list : List Op = c.self.inside.ops.items in
-    let same : length c.as_slice-2.result.now ≡ length (bases_of list) = ap length (c.as_slice-2.ensures.value ∙ c.self.invariant.4) in
-    let long : length (bases_of list) ≡ length (flat_map views list) = length-map (flat_map views list) (λ (v : Strided). base_of (flat_map views list) v.base) in
-    let views_few : length (flat_map views list) ≤ 3 * length list = few_views list in
-    let few : length list ≤ 256 = c.self.invariant.0 in
-    omega arith
+pub loop-place-init : goal.loop-place-init
+loop-place-init c = none_print c.args.self.now _ c.in_ok-print.ensures
+
+pub loop-place-preserved : goal.loop-place-preserved
+loop-place-preserved c =
+    subst (λ (b : List ℕ). IsFootprint c.args.self.now b c.in_ok-print-2.print) (sym (take_more c.args.block.now c.loop-place.place 0 c.loop-place-test.true))
+    (c.in_ok-print-2.ensures c.args.self.now (take c.loop-place.place c.args.block.now) (get_or c.args.block.now c.loop-place.place 0 ∷ []) c.loop-place.invariant c.in_ok-other.ensures)
+
+pub returns : goal.returns
+returns c = subst (λ (b : List ℕ). IsFootprint c.args.self.now b c.loop-place.print) (take_all c.loop-place.place c.args.block.now c.loop-place-test.false) c.loop-place.invariant
