@@ -4,3 +4,6 @@ pub mod Members
 pub mod Places
 pub mod Touched
 pub mod Marking
+pub mod Digits
+pub mod Prints
+pub mod KeptSums

@@ -31,7 +31,7 @@ any_alike : {X : Type 0} (s t : X → Bool) (xs : List X) → ((x : X) → s x �
 any_alike s t [] h = refl
 any_alike s t (x ∷ xs) h = ap₂ (λ a b. a || b) (h x) (any_alike s t xs h)
 
-any_flat : {X Y : Type 0} (f : X → List Y) (t : Y → Bool) (xs : List X) → list_any t (flat_map f xs) ≡ list_any (λ x. list_any t (f x)) xs
+pub any_flat : {X Y : Type 0} (f : X → List Y) (t : Y → Bool) (xs : List X) → list_any t (flat_map f xs) ≡ list_any (λ x. list_any t (f x)) xs
 any_flat f t [] = refl
 any_flat f t (x ∷ xs) = list_any-append t (f x) (flat_map f xs) ∙ ap (λ b. list_any t (f x) || b) (any_flat f t xs)
 
@@ -39,7 +39,7 @@ any_none : {X : Type 0} (xs : List X) → list_any (λ x. false) xs ≡ false
 any_none [] = refl
 any_none (x ∷ xs) = any_none xs
 
-any_either : {X : Type 0} (s t : X → Bool) (xs : List X) → list_any (λ x. s x || t x) xs ≡ (list_any s xs || list_any t xs)
+pub any_either : {X : Type 0} (s t : X → Bool) (xs : List X) → list_any (λ x. s x || t x) xs ≡ (list_any s xs || list_any t xs)
 any_either s t [] = refl
 any_either s t (x ∷ xs) = ap (λ b. (s x || t x) || b) (any_either s t xs) ∙ crossed (s x) (t x) (list_any s xs) (list_any t xs)
   where
@@ -148,7 +148,7 @@ flat_join : {X Y : Type 0} (f : X → List Y) (xs ys : List X) → flat_map f (x
 flat_join f [] ys = refl
 flat_join f (x ∷ xs) ys = ap (λ r. f x ++ r) (flat_join f xs ys) ∙ sym (append_assoc (f x) (flat_map f xs) (flat_map f ys))
 
-kept_rows : (K : Touches → List Touch) (g : Op → Touches) → K untouched ≡ [] → (list : List Op) (block : List ℕ) → flat_map K (touched_by (untouched ∷ map g list) block) ≡ flat_map (λ op. K (g op)) (picked list block)
+pub kept_rows : (K : Touches → List Touch) (g : Op → Touches) → K untouched ≡ [] → (list : List Op) (block : List ℕ) → flat_map K (touched_by (untouched ∷ map g list) block) ≡ flat_map (λ op. K (g op)) (picked list block)
 kept_rows K g none list [] = refl
 kept_rows K g none list (i ∷ block) =
     ap₂ (λ a b. a ++ b) (kept_at_number K g none list i) (kept_rows K g none list block)
@@ -224,7 +224,7 @@ own (v ∷ vs) = (
 abbrev pub Known : List Strided → Op → Type 0
 Known all op = AllByRecursion (Among all) (views op)
 
-known_in : (all : List Strided) (list : List Op) → ((v : Strided) → list_any (identical v) (flat_map views list) ≡ true → Among all v) → AllByRecursion (Known all) list
+pub known_in : (all : List Strided) (list : List Op) → ((v : Strided) → list_any (identical v) (flat_map views list) ≡ true → Among all v) → AllByRecursion (Known all) list
 known_in all [] step = tt
 known_in all (op ∷ list) step = (
   All_weaker (λ v. list_any (identical v) (views op) ≡ true) (Among all)
@@ -241,15 +241,15 @@ number_known : (P : Op → Type 0) (list : List Op) (i : ℕ) → AllByRecursion
 number_known P list zero h = tt
 number_known P list (suc i) h = place_known P list i h
 
-picked_known : (P : Op → Type 0) (list : List Op) (block : List ℕ) → AllByRecursion P list → AllByRecursion P (picked list block)
+pub picked_known : (P : Op → Type 0) (list : List Op) (block : List ℕ) → AllByRecursion P list → AllByRecursion P (picked list block)
 picked_known P list [] h = tt
 picked_known P list (i ∷ block) h = all_append P (at_number list i) (picked list block) (number_known P list i h) (picked_known P list block h)
 
-all_before : (P : Strided → Type 0) (us vs : List Strided) → AllByRecursion P (us ++ vs) → AllByRecursion P us
+pub all_before : (P : Strided → Type 0) (us vs : List Strided) → AllByRecursion P (us ++ vs) → AllByRecursion P us
 all_before P [] vs h = tt
 all_before P (u ∷ us) vs h = (h.0, all_before P us vs h.1)
 
-all_after : (P : Strided → Type 0) (us vs : List Strided) → AllByRecursion P (us ++ vs) → AllByRecursion P vs
+pub all_after : (P : Strided → Type 0) (us vs : List Strided) → AllByRecursion P (us ++ vs) → AllByRecursion P vs
 all_after P [] vs h = h
 all_after P (u ∷ us) vs h = all_after P us vs h.1
 
@@ -320,7 +320,7 @@ freed_told list v h op = of_free op.frees
     of_free None = refl
     of_free (Some b) = ap (λ c. c || false) (base_tells (flat_map views list) v b h)
 
-short_place : {X : Type 0} (p : X → Bool) (xs : List X) → position_or_len p xs ≤ length xs
+pub short_place : {X : Type 0} (p : X → Bool) (xs : List X) → position_or_len p xs ≤ length xs
 short_place p [] = omega arith
 short_place p (x ∷ xs) =
     let h : position_or_len p xs ≤ length xs = short_place p xs in

@@ -1,14 +1,17 @@
 //! The costs of a list.
-ghost use Rattle.std.specs.Prelude.{◌≡◌, ◌≤◌, ◌<◌, ◌+◌, ◌-◌, ◌*◌, ◌++◌, ◌∷◌, [], IfOk, IsTrue, cond, length, slice_index_or};
+ghost use Rattle.std.specs.Prelude.{◌≡◌, ◌≤◌, ◌<◌, ◌+◌, ◌-◌, ◌*◌, ◌++◌, ◌∷◌, [], IfOk, IsTrue, cond, length, slice_index_or, List, ℕ};
 ghost use Rattle.arr_view.specs.Views.{has};
 ghost use Rattle.arr_ops.specs.Costs.{block_cost, cost, reads, writes};
 ghost use Rattle.arr_ops.specs.Formed.{is_formed};
 ghost use Rattle.arr_ops.specs.Plans.{is_legal, numbered, ops_of};
+ghost use Rattle.arr_cost.specs.Footprints.{IsFootprint};
 
 use crate::NoMemory;
 use crate::block::{block_reads, block_writes};
-use crate::tally::touched_weight;
-use crate::touches::{Touches, table_of};
+use crate::footprints::{Footprint, footprint_of};
+use crate::tally::{touched_weight, touches_at};
+use crate::touches::{Touches, class_bases, table_of};
+use crate::weights::class_weights;
 use arr_ops::{Op, Plan};
 use arr_sets::MOST;
 use arr_view::View;
@@ -20,6 +23,8 @@ use std::marker::Model;
 pub struct Costs {
     ops: Vec<Op>,
     table: Vec<Touches>,
+    bases: Vec<usize>,
+    weights: Vec<u64>,
 }
 
 impl Model for Costs {
@@ -27,13 +32,14 @@ impl Model for Costs {
     ghost use Rattle.std.specs.List.{All};
     ghost use Rattle.arr_ops.specs.declared.op.Op.{Op};
     ghost use Rattle.arr_ops.specs.Formed.{is_formed};
+    ghost use Rattle.arr_cost.specs.Footprints.{bases_of, weights_of};
     ghost use Rattle.arr_cost.specs.Touches.{is_below, table_of};
 
     ghost Value = { List Op };
 
     ghost view = { λ c. c.ops.items };
 
-    ghost invariant = { λ c. (length c.ops.items ≤ 256) × (IsTrue (is_formed c.ops.items)) × (c.table.items ≡ table_of c.ops.items) × (All (λ t. IsTrue (is_below (3 * length c.table.items) t)) c.table.items) };
+    ghost invariant = { λ c. (length c.ops.items ≤ 256) × (IsTrue (is_formed c.ops.items)) × (c.table.items ≡ table_of c.ops.items) × (All (λ t. IsTrue (is_below (3 * length c.table.items) t)) c.table.items) × (c.bases.items ≡ bases_of c.ops.items) × (c.weights.items ≡ weights_of c.ops.items) × (All (λ w. w ≤ 8388608) c.weights.items) };
 }
 
 fn copied(alloc: Global, ops: &[Op]) -> Result<Vec<Op>, NoMemory>
@@ -84,6 +90,14 @@ fn cost_of(alloc: Global, costs: &Costs, block: &[u32]) -> Result<u64, NoMemory>
     Ok(sum)
 }
 
+/// What the block of the one operation with a number touches: nothing, where the list has none.
+fn one_footprint(alloc: Global, costs: &Costs, number: u32) -> Result<Footprint, NoMemory>
+    ensures { IfOk result (λ f. IsFootprint costs.now (number ∷ []) f) }
+{
+    let touches = touches_at(costs.table.as_slice(), number, 3 * costs.table.len());
+    footprint_of(alloc, touches, costs.bases.as_slice())
+}
+
 impl Costs {
     /// The costs of a formed list of at most `MOST` operations, with a copy of the list. Want of memory is its one refusal
     /// (docs/PLANS.md, "Cost").
@@ -95,6 +109,8 @@ impl Costs {
         Ok(Costs {
             ops: copied(alloc, ops)?,
             table: table_of(alloc, ops)?,
+            bases: class_bases(alloc, ops)?,
+            weights: class_weights(alloc, ops)?,
         })
     }
 
@@ -165,5 +181,25 @@ impl Costs {
         let second = cost_of(alloc, self, b)?;
         let whole = cost_of(alloc, self, both.as_slice())?;
         Ok(first + second - whole)
+    }
+
+    /// What a block touches (docs/PLANS.md, "Cost"). Want of memory is its one refusal.
+    pub fn footprint(&self, alloc: Global, block: &[u32]) -> Result<Footprint, NoMemory>
+        ensures { IfOk result (λ f. IsFootprint self.now block.now f) }
+    {
+        let mut print = one_footprint(alloc, self, 0)?;
+        for place in 0..block.len() {
+            let other = one_footprint(alloc, self, block[place])?;
+            print = print.joined(alloc, &other)?;
+        }
+        Ok(print)
+    }
+
+    /// What one block in place of two saves, in bytes, told what each of the two touches: the same as `saving`, and quick
+    /// (docs/PLANS.md, "Cost"). It takes no memory.
+    pub fn joint_saving(&self, a: &Footprint, b: &Footprint) -> u64
+        ensures { (x y : List ℕ) → IsFootprint self.now x a.now → IsFootprint self.now y b.now → block_cost self.now (x ++ y) + result ≡ block_cost self.now x + block_cost self.now y }
+    {
+        a.saving(self.weights.as_slice(), b)
     }
 }

@@ -14,12 +14,14 @@
 mod block;
 mod costs;
 mod distinct;
+mod footprints;
 mod tally;
 mod touches;
 mod weights;
 
 pub use block::{block_reads, block_views, block_writes};
 pub use costs::{Costs, block_ops};
+pub use footprints::Footprint;
 
 /// Want of memory.
 pub use std::alloc::AllocError as NoMemory;

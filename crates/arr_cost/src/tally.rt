@@ -11,7 +11,7 @@ use crate::touches::{Touch, Touches};
 use std::alloc::Global;
 
 /// What the operation with a number touches: nothing, where the list has none.
-fn touches_at(table: &[Touches], number: u32, bound: usize) -> &Touches
+pub(crate) fn touches_at(table: &[Touches], number: u32, bound: usize) -> &Touches
     requires some { 0 < length table.now }
     requires none { get_or table.now 0 untouched ≡ untouched }
     requires below { All (λ t. IsTrue (is_below bound t)) table.now }

@@ -5,6 +5,7 @@ ghost use Rattle.std.specs.Option.{option_map, option_to_list};
 ghost use Rattle.arr_view.specs.Views.{identical};
 ghost use Rattle.arr_ops.specs.Costs.{weight};
 ghost use Rattle.arr_ops.specs.Ops.{array_of, view_of, views};
+ghost use Rattle.arr_cost.specs.Footprints.{bases_of};
 ghost use Rattle.arr_cost.specs.Touches.{base_of, class_of, free_below, is_below, table_of, touch_below, touch_of, touches_of, untouched};
 
 use crate::NoMemory;
@@ -175,4 +176,23 @@ pub(crate) fn table_of(alloc: Global, ops: &[Op]) -> Result<Vec<Touches>, NoMemo
         table.push(touches_of(ops, all.as_slice(), op))?;
     }
     Ok(table)
+}
+
+/// The base of each view.
+fn bases_among(alloc: Global, all: &[View]) -> Result<Vec<usize>, NoMemory>
+    ensures { IfOk result (λ bases. bases.items ≡ map (λ v. base_of all.now v.base) all.now) }
+{
+    let mut bases = Vec::new(alloc);
+    for view in all {
+        bases.push(base_of(all, view.base()))?;
+    }
+    Ok(bases)
+}
+
+/// The base of each class.
+pub(crate) fn class_bases(alloc: Global, ops: &[Op]) -> Result<Vec<usize>, NoMemory>
+    ensures { IfOk result (λ bases. bases.items ≡ bases_of ops.now) }
+{
+    let all = all_views(alloc, ops)?;
+    bases_among(alloc, all.as_slice())
 }

@@ -1,15 +1,20 @@
 //! What views weigh.
-ghost use Rattle.std.specs.Prelude.{◌≡◌, ◌≤◌, ◌==◌, map};
+ghost use Rattle.std.specs.Prelude.{◌≡◌, ◌≤◌, ◌==◌, IfOk, map};
+ghost use Rattle.std.specs.List.{All};
 ghost use Rattle.std.specs.Option.{option_to_list};
 ghost use Rattle.arr_view.specs.Views.{has};
 ghost use Rattle.arr_ops.specs.Costs.{elem_of, weight};
 ghost use Rattle.arr_ops.specs.Formed.{typed};
 ghost use Rattle.arr_ops.specs.Ops.{inputs, outputs, view_of};
+ghost use Rattle.arr_cost.specs.Footprints.{weights_of};
 ghost use Rattle.arr_cost.specs.Types.{type_among};
 
+use crate::NoMemory;
+use crate::touches::all_views;
 use arr_num::Elem;
 use arr_ops::{Op, Operand, weight};
 use arr_view::View;
+use std::alloc::Global;
 
 fn is_of(view: &Option<View>, base: u32) -> bool
     ensures { result ≡ has (map (λ v. v.base) (option_to_list view.now)) base }
@@ -66,4 +71,25 @@ pub(crate) fn view_weight(list: &[Op], view: &View) -> u64
     ensures small { result ≤ 8388608 }
 {
     weight(view, elem_of(list, view.base()))
+}
+
+/// What each view weighs.
+fn weights_among(alloc: Global, ops: &[Op], all: &[View]) -> Result<Vec<u64>, NoMemory>
+    ensures value { IfOk result (λ weights. weights.items ≡ map (weight ops.now) all.now) }
+    ensures small { IfOk result (λ weights. All (λ w. w ≤ 8388608) weights.items) }
+{
+    let mut weights = Vec::new(alloc);
+    for view in all {
+        weights.push(view_weight(ops, view))?;
+    }
+    Ok(weights)
+}
+
+/// What each class weighs.
+pub(crate) fn class_weights(alloc: Global, ops: &[Op]) -> Result<Vec<u64>, NoMemory>
+    ensures value { IfOk result (λ weights. weights.items ≡ weights_of ops.now) }
+    ensures small { IfOk result (λ weights. All (λ w. w ≤ 8388608) weights.items) }
+{
+    let all = all_views(alloc, ops)?;
+    weights_among(alloc, ops, all.as_slice())
 }

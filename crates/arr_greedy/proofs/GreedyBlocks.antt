@@ -15,7 +15,8 @@ use Rattle.arr_heur.proofs.Merge.{in_map}
 use Rattle.arr_heur.proofs.Merged.{greedy_blocks_good, in_singles}
 use Rattle.arr_heur.proofs.Stretches.{range_more}
 use Rattle.arr_greedy.specs.Blocks.{live, row_at, Keyed}
-use Rattle.arr_greedy.proofs.KeyedBlocks.{numbers_are}
+use Rattle.arr_greedy.specs.Fast.{block_at}
+use Rattle.arr_greedy.proofs.KeyedBlocks.{block_live, numbers_are}
 
 abbrev pub single : ℕ → List ℕ
 single i = i ∷ []
@@ -133,3 +134,15 @@ begun_long n = from 1 n
 
     from : (a n : ℕ) → suc (length (map single (range_with_len a n))) ≡ n + 1
     from a n = ap suc (long a n) ∙ (let e : suc n ≡ n + 1 = omega arith in e)
+
+-- the blocks at the beginning, by their numbers
+pub begun_at : (n x : ℕ) → 0 < x → x < n + 1 → block_at x (live ([] ∷ map single (range_with_len 1 n))) ≡ single x
+begun_at n zero l m = absurd (omega arith)
+begun_at n (suc k) l m =
+    block_live ([] ∷ map single (range_with_len 1 n)) (suc k) (begun_keyed n) (let e : length ([] ∷ map single (range_with_len 1 n)) ≡ n + 1 = begun_long n in omega arith)
+    ∙ from 1 n k (omega arith) ∙ ap single (let e : 1 + k ≡ suc k = omega arith in e)
+  where
+    from : (a n k : ℕ) → k < n → get_or (map single (range_with_len a n)) k [] ≡ single (a + k)
+    from a zero k l = absurd (omega arith)
+    from a (suc n) zero l = ap single (let e : a ≡ a + 0 = omega arith in e)
+    from a (suc n) (suc k) l = from (a + 1) n k (omega arith) ∙ ap single (let e : a + 1 + k ≡ a + suc k = omega arith in e)

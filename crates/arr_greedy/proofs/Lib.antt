@@ -11,3 +11,4 @@ mod Chosen
 mod Begun
 mod Grids
 mod GreedyBlocks
+mod Printed

@@ -2,6 +2,7 @@
 ghost use Rattle.std.specs.Prelude.{◌≡◌, ◌<◌, ◌*◌, ◌+◌, ◌==◌, ◌&&◌, ◌||◌, ◌≢◌, ◌++◌, ◌∷◌, [], length, ℕ, IfOk, IsTrue, cond, not, min, max, get_or, map};
 ghost use Rattle.std.specs.List.{All, filter, range_with_len};
 ghost use Rattle.arr_view.specs.Views.{has};
+ghost use Rattle.arr_cost.specs.Footprints.{IsFootprint};
 ghost use Rattle.arr_ops.specs.Plans.{not_empty, numbered};
 ghost use Rattle.arr_ops.specs.Order.{least_of};
 ghost use Rattle.arr_heur.specs.Planners.{greedy_blocks, greedy_within, merge, numbers, saving, singles, union};
@@ -12,32 +13,33 @@ ghost use Rattle.arr_greedy.specs.Ways.{reach_after};
 use crate::NoMemory;
 use crate::choice::next_pair;
 use crate::rows::{fuse_rows, reach_rows};
-use arr_cost::Costs;
+use arr_cost::{Costs, Footprint};
 use std::alloc::Global;
 
+/// A block: the numbers of its operations, ascending, and what it touches. Where no block stands there are no numbers.
+#[derive(Drop)]
+pub(crate) struct Block {
+    pub(crate) numbers: Vec<u32>,
+    pub(crate) print: Footprint,
+}
+
 /// The numbers of the block at a place, none where no block stands there.
-fn row_at(blocks: &[Vec<u32>], place: usize) -> &[u32]
+fn row_at(blocks: &[Block], place: usize) -> &[u32]
     requires { place < length blocks.now }
-    ensures { result.now ≡ row_at (map (λ b. b.items) blocks.now) place }
+    ensures { result.now ≡ row_at (map (λ b. b.numbers.items) blocks.now) place }
 {
-    blocks[place].as_slice()
+    blocks[place].numbers.as_slice()
 }
 
 /// What one block in place of two saves.
-fn pair_saving(
-    alloc: Global,
-    costs: &Costs,
-    blocks: &[Vec<u32>],
-    left: usize,
-    right: usize,
-) -> Result<u64, NoMemory>
+pub(crate) fn pair_saving(costs: &Costs, blocks: &[Block], left: usize, right: usize) -> u64
     requires left_in { left < length blocks.now }
     requires right_in { right < length blocks.now }
-    requires keyed { Keyed (map (λ b. b.items) blocks.now) }
-    ensures { IfOk result (λ s. s ≡ saving costs.now (block_at left (live (map (λ b. b.items) blocks.now)), block_at right (live (map (λ b. b.items) blocks.now)))) }
+    requires keyed { Keyed (map (λ b. b.numbers.items) blocks.now) }
+    requires printed { All (λ b. IsFootprint costs.now b.numbers.items b.print) blocks.now }
+    ensures { result ≡ saving costs.now (block_at left (live (map (λ b. b.numbers.items) blocks.now)), block_at right (live (map (λ b. b.numbers.items) blocks.now))) }
 {
-    let saved = costs.saving(alloc, row_at(blocks, left), row_at(blocks, right))?;
-    Ok(saved)
+    costs.joint_saving(&blocks[left].print, &blocks[right].print)
 }
 
 /// Whether one of two blocks has a number.
@@ -75,11 +77,41 @@ fn union_of(alloc: Global, left: &[u32], right: &[u32], count: u32) -> Result<Ve
     Ok(both)
 }
 
+/// The place where no block stands.
+pub(crate) fn no_block(alloc: Global, costs: &Costs) -> Result<Block, NoMemory>
+    ensures numbers { IfOk result (λ block. block.numbers.items ≡ []) }
+    ensures print { IfOk result (λ block. IsFootprint costs.now block.numbers.items block.print) }
+{
+    Ok(Block {
+        numbers: Vec::new(alloc),
+        print: costs.footprint(alloc, &[])?,
+    })
+}
+
+/// Two blocks as one.
+fn joined(
+    alloc: Global,
+    costs: &Costs,
+    blocks: &[Block],
+    left: usize,
+    right: usize,
+) -> Result<Block, NoMemory>
+    requires left_in { left < length blocks.now }
+    requires right_in { right < length blocks.now }
+    requires printed { All (λ b. IsFootprint costs.now b.numbers.items b.print) blocks.now }
+    ensures numbers { IfOk result (λ block. block.numbers.items ≡ union (numbered costs.now) (row_at (map (λ b. b.numbers.items) blocks.now) left) (row_at (map (λ b. b.numbers.items) blocks.now) right)) }
+    ensures print { IfOk result (λ block. IsFootprint costs.now block.numbers.items block.print) }
+{
+    let numbers = union_of(alloc, row_at(blocks, left), row_at(blocks, right), costs.len())?;
+    let print = blocks[left].print.joined(alloc, &blocks[right].print)?;
+    Ok(Block { numbers, print })
+}
+
 /// Makes one block of two, at the place of the first.
 fn join(
     alloc: Global,
     costs: &Costs,
-    blocks: &mut Vec<Vec<u32>>,
+    blocks: &mut Vec<Block>,
     left: usize,
     right: usize,
 ) -> Result<(), NoMemory>
@@ -87,22 +119,20 @@ fn join(
     requires right_in { right < length blocks.old.items }
     requires apart { left ≢ right }
     requires some { 0 < left }
-    requires left_block { IsTrue (not_empty (row_at (map (λ b. b.items) blocks.old.items) left)) }
-    requires right_block { IsTrue (not_empty (row_at (map (λ b. b.items) blocks.old.items) right)) }
-    requires key { least_of (union (numbered costs.now) (row_at (map (λ b. b.items) blocks.old.items) left) (row_at (map (λ b. b.items) blocks.old.items) right)) ≡ left }
-    requires keyed { Keyed (map (λ b. b.items) blocks.old.items) }
+    requires left_block { IsTrue (not_empty (row_at (map (λ b. b.numbers.items) blocks.old.items) left)) }
+    requires right_block { IsTrue (not_empty (row_at (map (λ b. b.numbers.items) blocks.old.items) right)) }
+    requires key { least_of (union (numbered costs.now) (row_at (map (λ b. b.numbers.items) blocks.old.items) left) (row_at (map (λ b. b.numbers.items) blocks.old.items) right)) ≡ left }
+    requires keyed { Keyed (map (λ b. b.numbers.items) blocks.old.items) }
+    requires printed { All (λ b. IsFootprint costs.now b.numbers.items b.print) blocks.old.items }
     ensures long { IfOk result (λ done. length blocks.new.items ≡ length blocks.old.items) }
-    ensures keyed { IfOk result (λ done. Keyed (map (λ b. b.items) blocks.new.items)) }
-    ensures blocks { IfOk result (λ done. live (map (λ b. b.items) blocks.new.items) ≡ merge (numbered costs.now) (block_at left (live (map (λ b. b.items) blocks.old.items))) (block_at right (live (map (λ b. b.items) blocks.old.items))) (live (map (λ b. b.items) blocks.old.items))) }
+    ensures keyed { IfOk result (λ done. Keyed (map (λ b. b.numbers.items) blocks.new.items)) }
+    ensures printed { IfOk result (λ done. All (λ b. IsFootprint costs.now b.numbers.items b.print) blocks.new.items) }
+    ensures blocks { IfOk result (λ done. live (map (λ b. b.numbers.items) blocks.new.items) ≡ merge (numbered costs.now) (block_at left (live (map (λ b. b.numbers.items) blocks.old.items))) (block_at right (live (map (λ b. b.numbers.items) blocks.old.items))) (live (map (λ b. b.numbers.items) blocks.old.items))) }
 {
-    let both = union_of(
-        alloc,
-        row_at(blocks.as_slice(), left),
-        row_at(blocks.as_slice(), right),
-        costs.len(),
-    )?;
+    let both = joined(alloc, costs, blocks.as_slice(), left, right)?;
+    let none = no_block(alloc, costs)?;
     blocks[left] = both;
-    blocks[right] = Vec::new(alloc);
+    blocks[right] = none;
     Ok(())
 }
 
@@ -126,37 +156,36 @@ fn put_amount(rows: &mut [u64], width: usize, row: usize, column: usize, value: 
 
 /// The savings of one block with each of the others.
 fn price_row(
-    alloc: Global,
     costs: &Costs,
-    blocks: &[Vec<u32>],
+    blocks: &[Block],
     keys: &[usize],
     saved: &mut [u64],
     width: usize,
     left: usize,
-) -> Result<(), NoMemory>
+)
     requires left_in { left < width }
     requires blocks_in { length blocks.now ≡ width }
-    requires keyed { Keyed (map (λ b. b.items) blocks.now) }
+    requires keyed { Keyed (map (λ b. b.numbers.items) blocks.now) }
+    requires printed { All (λ b. IsFootprint costs.now b.numbers.items b.print) blocks.now }
     requires keys_in { All (λ k. k < width) keys.now }
     requires size { length saved.old ≡ width * width }
     ensures size { length saved.new ≡ width * width }
-    ensures priced { IfOk result (λ done. (i : ℕ) → i < length keys.now → amount saved.new width (min (get_or keys.now i 0) left) (max (get_or keys.now i 0) left) ≡ saving costs.now (block_at (min (get_or keys.now i 0) left) (live (map (λ b. b.items) blocks.now)), block_at (max (get_or keys.now i 0) left) (live (map (λ b. b.items) blocks.now)))) }
+    ensures priced { (i : ℕ) → i < length keys.now → amount saved.new width (min (get_or keys.now i 0) left) (max (get_or keys.now i 0) left) ≡ saving costs.now (block_at (min (get_or keys.now i 0) left) (live (map (λ b. b.numbers.items) blocks.now)), block_at (max (get_or keys.now i 0) left) (live (map (λ b. b.numbers.items) blocks.now))) }
     ensures others { (x y : ℕ) → x < width → y < width → x ≢ left → y ≢ left → amount saved.new width x y ≡ amount saved.old width x y }
 {
     for key in keys {
         let row = (*key).min(left);
         let column = (*key).max(left);
-        let saving = pair_saving(alloc, costs, blocks, row, column)?;
+        let saving = pair_saving(costs, blocks, row, column);
         put_amount(saved, width, row, column, saving);
     }
-    Ok(())
 }
 
 /// One merge, with the rows after it.
 fn one_turn(
     alloc: Global,
     costs: &Costs,
-    blocks: &mut Vec<Vec<u32>>,
+    blocks: &mut Vec<Block>,
     keys: &mut Vec<usize>,
     fuses: &mut [bool],
     reaches: &mut [bool],
@@ -169,18 +198,20 @@ fn one_turn(
     requires right_in { right < width }
     requires apart { left ≢ right }
     requires some { 0 < left }
-    requires left_block { IsTrue (not_empty (row_at (map (λ b. b.items) blocks.old.items) left)) }
-    requires right_block { IsTrue (not_empty (row_at (map (λ b. b.items) blocks.old.items) right)) }
-    requires key { least_of (union (numbered costs.now) (row_at (map (λ b. b.items) blocks.old.items) left) (row_at (map (λ b. b.items) blocks.old.items) right)) ≡ left }
-    requires keyed { Keyed (map (λ b. b.items) blocks.old.items) }
+    requires left_block { IsTrue (not_empty (row_at (map (λ b. b.numbers.items) blocks.old.items) left)) }
+    requires right_block { IsTrue (not_empty (row_at (map (λ b. b.numbers.items) blocks.old.items) right)) }
+    requires key { least_of (union (numbered costs.now) (row_at (map (λ b. b.numbers.items) blocks.old.items) left) (row_at (map (λ b. b.numbers.items) blocks.old.items) right)) ≡ left }
+    requires keyed { Keyed (map (λ b. b.numbers.items) blocks.old.items) }
+    requires printed { All (λ b. IsFootprint costs.now b.numbers.items b.print) blocks.old.items }
     requires blocks_in { length blocks.old.items ≡ width }
     requires keys_in { All (λ k. k < width) keys.old.items }
     requires fuses_size { length fuses.old ≡ width * width }
     requires reaches_size { length reaches.old ≡ width * width }
     requires saved_size { length saved.old ≡ width * width }
-    ensures blocks { IfOk result (λ done. live (map (λ b. b.items) blocks.new.items) ≡ merge (numbered costs.now) (block_at left (live (map (λ b. b.items) blocks.old.items))) (block_at right (live (map (λ b. b.items) blocks.old.items))) (live (map (λ b. b.items) blocks.old.items))) }
+    ensures blocks { IfOk result (λ done. live (map (λ b. b.numbers.items) blocks.new.items) ≡ merge (numbered costs.now) (block_at left (live (map (λ b. b.numbers.items) blocks.old.items))) (block_at right (live (map (λ b. b.numbers.items) blocks.old.items))) (live (map (λ b. b.numbers.items) blocks.old.items))) }
     ensures blocks_in { IfOk result (λ done. length blocks.new.items ≡ width) }
-    ensures keyed { IfOk result (λ done. Keyed (map (λ b. b.items) blocks.new.items)) }
+    ensures keyed { IfOk result (λ done. Keyed (map (λ b. b.numbers.items) blocks.new.items)) }
+    ensures printed { IfOk result (λ done. All (λ b. IsFootprint costs.now b.numbers.items b.print) blocks.new.items) }
     ensures keys { IfOk result (λ done. keys.new.items ≡ filter (λ k. not (k == right)) keys.old.items) }
     ensures keys_in { IfOk result (λ done. All (λ k. k < width) keys.new.items) }
     ensures fuses_size { length fuses.new ≡ width * width }
@@ -188,7 +219,7 @@ fn one_turn(
     ensures saved_size { IfOk result (λ done. length saved.new ≡ width * width) }
     ensures fuses { (x y : ℕ) → x < width → y < width → flag fuses.new width x y ≡ fuses_after (flag fuses.old width) left right x y }
     ensures reaches { (x y : ℕ) → x < width → y < width → x ≢ right → flag reaches.new width x y ≡ reach_after (λ k. k) (flag reaches.old width) left right x y }
-    ensures priced { IfOk result (λ done. (i : ℕ) → i < length keys.new.items → amount saved.new width (min (get_or keys.new.items i 0) left) (max (get_or keys.new.items i 0) left) ≡ saving costs.now (block_at (min (get_or keys.new.items i 0) left) (live (map (λ b. b.items) blocks.new.items)), block_at (max (get_or keys.new.items i 0) left) (live (map (λ b. b.items) blocks.new.items)))) }
+    ensures priced { IfOk result (λ done. (i : ℕ) → i < length keys.new.items → amount saved.new width (min (get_or keys.new.items i 0) left) (max (get_or keys.new.items i 0) left) ≡ saving costs.now (block_at (min (get_or keys.new.items i 0) left) (live (map (λ b. b.numbers.items) blocks.new.items)), block_at (max (get_or keys.new.items i 0) left) (live (map (λ b. b.numbers.items) blocks.new.items)))) }
     ensures others { IfOk result (λ done. (x y : ℕ) → x < width → y < width → x ≢ left → y ≢ left → amount saved.new width x y ≡ amount saved.old width x y) }
 {
     fuse_rows(fuses, width, left, right);
@@ -196,14 +227,13 @@ fn one_turn(
     join(alloc, costs, blocks, left, right)?;
     drop_key(keys, right);
     price_row(
-        alloc,
         costs,
         blocks.as_slice(),
         keys.as_slice(),
         saved,
         width,
         left,
-    )?;
+    );
     Ok(())
 }
 
@@ -211,7 +241,7 @@ fn one_turn(
 pub(crate) fn merge_all(
     alloc: Global,
     costs: &Costs,
-    blocks: &mut Vec<Vec<u32>>,
+    blocks: &mut Vec<Block>,
     keys: &mut Vec<usize>,
     fuses: &mut [bool],
     reaches: &mut [bool],
@@ -219,15 +249,16 @@ pub(crate) fn merge_all(
     width: usize,
     count: usize,
 ) -> Result<(), NoMemory>
-    requires keyed { Keyed (map (λ b. b.items) blocks.old.items) }
+    requires keyed { Keyed (map (λ b. b.numbers.items) blocks.old.items) }
+    requires printed { All (λ b. IsFootprint costs.now b.numbers.items b.print) blocks.old.items }
     requires blocks_in { length blocks.old.items ≡ width }
     requires keys_in { All (λ k. k < width) keys.old.items }
     requires fuses_size { length fuses.old ≡ width * width }
     requires reaches_size { length reaches.old ≡ width * width }
     requires saved_size { length saved.old ≡ width * width }
-    requires keys { keys.old.items ≡ map least_of (live (map (λ b. b.items) blocks.old.items)) }
-    requires told { Told costs.now (live (map (λ b. b.items) blocks.old.items)) (flag fuses.old width) (flag reaches.old width) (amount saved.old width) }
-    ensures { IfOk result (λ done. live (map (λ b. b.items) blocks.new.items) ≡ greedy_within count costs.now (live (map (λ b. b.items) blocks.old.items))) }
+    requires keys { keys.old.items ≡ map least_of (live (map (λ b. b.numbers.items) blocks.old.items)) }
+    requires told { Told costs.now (live (map (λ b. b.numbers.items) blocks.old.items)) (flag fuses.old width) (flag reaches.old width) (amount saved.old width) }
+    ensures { IfOk result (λ done. live (map (λ b. b.numbers.items) blocks.new.items) ≡ greedy_within count costs.now (live (map (λ b. b.numbers.items) blocks.old.items))) }
 {
     for turn in 0..count {
         match next_pair(keys.as_slice(), fuses, reaches, saved, width) {

@@ -1,12 +1,13 @@
 //! The plan of greedy.
 ghost use Rattle.std.specs.Prelude.{◌≡◌, ◌≤◌, ◌<◌, ◌+◌, ◌++◌, ◌∷◌, [], ℕ, IfOk, cond, length, map};
 ghost use Rattle.std.specs.List.{All, range_with_len};
+ghost use Rattle.arr_cost.specs.Footprints.{IsFootprint};
 ghost use Rattle.arr_ops.specs.Plans.{not_empty};
 ghost use Rattle.arr_heur.specs.Planners.{greedy_blocks, greedy_plan};
 ghost use Rattle.arr_greedy.specs.Blocks.{live};
 
 use crate::NoMemory;
-use crate::merging::merge_all;
+use crate::merging::{Block, merge_all, no_block};
 use crate::start::fill_rows;
 use crate::tables::{dep_table, fuse_table, saved_table};
 use arr_cost::Costs;
@@ -15,25 +16,29 @@ use arr_heur::ordered;
 use arr_ops::Plan;
 use std::alloc::Global;
 
-fn one_row(alloc: Global, number: u32) -> Result<Vec<u32>, NoMemory>
-    ensures { IfOk result (λ row. row.items ≡ number ∷ []) }
+/// The block of one operation.
+fn one_block(alloc: Global, costs: &Costs, number: u32) -> Result<Block, NoMemory>
+    ensures numbers { IfOk result (λ block. block.numbers.items ≡ number ∷ []) }
+    ensures print { IfOk result (λ block. IsFootprint costs.now block.numbers.items block.print) }
 {
-    let mut row = Vec::new(alloc);
-    row.push(number)?;
-    Ok(row)
+    let mut numbers = Vec::new(alloc);
+    numbers.push(number)?;
+    let print = costs.footprint(alloc, numbers.as_slice())?;
+    Ok(Block { numbers, print })
 }
 
 /// The block of one operation at each number, and none at 0.
-fn single_rows(alloc: Global, count: usize) -> Result<Vec<Vec<u32>>, NoMemory>
+fn single_blocks(alloc: Global, costs: &Costs, count: usize) -> Result<Vec<Block>, NoMemory>
     requires { count ≤ 256 }
-    ensures { IfOk result (λ rows. map (λ b. b.items) rows.items ≡ [] ∷ map (λ i. i ∷ []) (range_with_len 1 count)) }
+    ensures rows { IfOk result (λ blocks. map (λ b. b.numbers.items) blocks.items ≡ [] ∷ map (λ i. i ∷ []) (range_with_len 1 count)) }
+    ensures printed { IfOk result (λ blocks. All (λ b. IsFootprint costs.now b.numbers.items b.print) blocks.items) }
 {
-    let mut rows = Vec::new(alloc);
-    rows.push(Vec::new(alloc))?;
+    let mut blocks = Vec::new(alloc);
+    blocks.push(no_block(alloc, costs)?)?;
     for place in 0..count {
-        rows.push(one_row(alloc, place as u32 + 1)?)?;
+        blocks.push(one_block(alloc, costs, place as u32 + 1)?)?;
     }
-    Ok(rows)
+    Ok(blocks)
 }
 
 /// The numbers from 1 on.
@@ -60,12 +65,12 @@ fn push_live(kept: &mut Vec<Vec<u32>>, alloc: Global, row: &[u32]) -> Result<(),
 }
 
 /// The blocks, without the places where none stands.
-fn live_rows(alloc: Global, rows: &[Vec<u32>]) -> Result<Vec<Vec<u32>>, NoMemory>
-    ensures { IfOk result (λ kept. map (λ b. b.items) kept.items ≡ live (map (λ b. b.items) rows.now)) }
+fn live_rows(alloc: Global, blocks: &[Block]) -> Result<Vec<Vec<u32>>, NoMemory>
+    ensures { IfOk result (λ kept. map (λ b. b.items) kept.items ≡ live (map (λ b. b.numbers.items) blocks.now)) }
 {
     let mut kept = Vec::new(alloc);
-    for row in rows {
-        push_live(&mut kept, alloc, row.as_slice())?;
+    for block in blocks {
+        push_live(&mut kept, alloc, block.numbers.as_slice())?;
     }
     Ok(kept)
 }
@@ -81,8 +86,8 @@ fn merged(alloc: Global, graph: &Graph, costs: &Costs) -> Result<Vec<Vec<u32>>, 
     let deps = dep_table(alloc, graph, width)?;
     let mut reaches = vec![in alloc; false; width * width]?;
     fill_rows(deps.as_slice(), reaches.as_mut_slice(), width);
-    let mut saved = saved_table(alloc, costs, width)?;
-    let mut blocks = single_rows(alloc, count)?;
+    let mut blocks = single_blocks(alloc, costs, count)?;
+    let mut saved = saved_table(alloc, costs, blocks.as_slice(), width)?;
     let mut keys = all_numbers(alloc, count)?;
     merge_all(
         alloc,

@@ -1,10 +1,14 @@
 //! The tables of one block an operation: rows and columns are numbers, and those of 0 are empty.
-ghost use Rattle.std.specs.Prelude.{◌≡◌, ◌≤◌, ◌<◌, ◌+◌, ◌*◌, ◌∷◌, [], ℕ, IfOk, length};
+ghost use Rattle.std.specs.Prelude.{◌≡◌, ◌≤◌, ◌<◌, ◌+◌, ◌*◌, ◌∷◌, [], ℕ, IfOk, length, map};
 ghost use Rattle.arr_heur.specs.Planners.{saving};
-ghost use Rattle.arr_greedy.specs.Fast.{amount, flag};
+ghost use Rattle.arr_cost.specs.Footprints.{IsFootprint};
+ghost use Rattle.arr_greedy.specs.Blocks.{live, Keyed};
+ghost use Rattle.arr_greedy.specs.Fast.{amount, block_at, flag};
+ghost use Rattle.std.specs.List.{All};
 ghost use Rattle.arr_greedy.specs.Start.{deps_at, fuses_at};
 
 use crate::NoMemory;
+use crate::merging::{Block, pair_saving};
 use arr_cost::Costs;
 use arr_deps::Graph;
 use std::alloc::Global;
@@ -35,17 +39,18 @@ fn deps_at(graph: &Graph, i: usize, j: usize) -> bool
     graph.dep(i as u32, j as u32)
 }
 
-/// What one block of two operations saves, the first standing before the second.
-fn saved_at(alloc: Global, costs: &Costs, i: usize, j: usize) -> Result<u64, NoMemory>
-    requires first { i ≤ 256 }
-    requires second { j ≤ 256 }
-    ensures { IfOk result (λ saved. 0 < i → i < j → saved ≡ saving costs.now (i ∷ [], j ∷ [])) }
+/// What one block in place of two saves, the first standing before the second.
+fn saved_at(costs: &Costs, blocks: &[Block], left: usize, right: usize) -> u64
+    requires left_in { left < length blocks.now }
+    requires right_in { right < length blocks.now }
+    requires keyed { Keyed (map (λ b. b.numbers.items) blocks.now) }
+    requires printed { All (λ b. IsFootprint costs.now b.numbers.items b.print) blocks.now }
+    ensures { left < right → result ≡ saving costs.now (block_at left (live (map (λ b. b.numbers.items) blocks.now)), block_at right (live (map (λ b. b.numbers.items) blocks.now))) }
 {
-    if i == 0 || j <= i {
-        return Ok(0);
+    if right <= left {
+        return 0;
     }
-    let saved = costs.saving(alloc, &[i as u32], &[j as u32])?;
-    Ok(saved)
+    pair_saving(costs, blocks, left, right)
 }
 
 /// For each two operations whether they may share a block.
@@ -76,16 +81,23 @@ pub(crate) fn dep_table(alloc: Global, graph: &Graph, width: usize) -> Result<Ve
     Ok(rows)
 }
 
-/// For each two operations, the first before the second, what one block of them saves.
-pub(crate) fn saved_table(alloc: Global, costs: &Costs, width: usize) -> Result<Vec<u64>, NoMemory>
-    requires width { width ≡ length costs.now + 1 }
-    requires few { length costs.now ≤ 256 }
+/// For each two blocks, the first before the second, what one block of them saves.
+pub(crate) fn saved_table(
+    alloc: Global,
+    costs: &Costs,
+    blocks: &[Block],
+    width: usize,
+) -> Result<Vec<u64>, NoMemory>
+    requires width { width ≡ length blocks.now }
+    requires few { length blocks.now ≤ 257 }
+    requires keyed { Keyed (map (λ b. b.numbers.items) blocks.now) }
+    requires printed { All (λ b. IsFootprint costs.now b.numbers.items b.print) blocks.now }
     ensures long { IfOk result (λ rows. length rows.items ≡ width * width) }
-    ensures saved { IfOk result (λ rows. (x y : ℕ) → 0 < x → x < y → y < width → amount rows.items width x y ≡ saving costs.now (x ∷ [], y ∷ [])) }
+    ensures saved { IfOk result (λ rows. (x y : ℕ) → x < y → y < width → amount rows.items width x y ≡ saving costs.now (block_at x (live (map (λ b. b.numbers.items) blocks.now)), block_at y (live (map (λ b. b.numbers.items) blocks.now)))) }
 {
     let mut rows = Vec::new(alloc);
     for place in 0..width * width {
-        rows.push(saved_at(alloc, costs, place / width, place % width)?)?;
+        rows.push(saved_at(costs, blocks, place / width, place % width))?;
     }
     Ok(rows)
 }

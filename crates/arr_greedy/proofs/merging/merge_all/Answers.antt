@@ -1,4 +1,4 @@
-use Rattle.std.proofs.Common.{◌≡◌, ℕ, ◌+◌, ◌-◌, ◌<◌, List, Vec, Global, suc, length, map, refl, ap, sym, ◌∙◌, arith}
+use Rattle.std.proofs.Common.{◌≡◌, ℕ, ◌+◌, ◌-◌, ◌<◌, List, suc, length, map, refl, ap, sym, ◌∙◌, arith}
 use Rattle.std.proofs.lemmas.List.{length-map}
 use Rattle.arr_heur.specs.Planners.{greedy_within}
 use Rattle.arr_greedy.specs.Blocks.{live}
@@ -6,10 +6,8 @@ use Rattle.arr_greedy.specs.Fast.{amount, flag, next_pair}
 use Rattle.arr_greedy.proofs.Fast.{no_turn}
 use Rattle.arr_greedy.proofs.Chosen.{chosen_now}
 use Rattle.arr_greedy.proofs.Turns.{to_kept, turned}
+use Rattle.arr_greedy.proofs.Printed.{numbers_in}
 use Rattle.arr_greedy.proofs.merging.merge_all.Goals as goal
-
-abbrev pub numbers_in : Vec ℕ Global → List ℕ
-numbers_in b = b.items
 
 pub loop-turn-init : goal.loop-turn-init
 loop-turn-init c =
@@ -17,6 +15,7 @@ loop-turn-init c =
     let e : c.args.count - 0 ≡ c.args.count = omega arith in
     record {
       keyed = c.requires.keyed;
+      printed = c.requires.printed;
       blocks_in = c.requires.blocks_in;
       keys_in = c.requires.keys_in;
       fuses_size = c.requires.fuses_size;
@@ -85,6 +84,7 @@ loop-turn-preserved c =
     let e : suc n ≡ c.args.count - c.loop-turn.turn = omega arith in
     record {
       keyed = o.keyed;
+      printed = o.printed;
       blocks_in = o.blocks_in;
       keys_in = o.keys_in;
       fuses_size = o.fuses_size;

@@ -1,11 +1,11 @@
-use Rattle.std.proofs.Common.{◌≡◌, ◌<◌, ◌∙◌, Vec, Global, ℕ, List, length, map, ap₂, sym, arith}
+use Rattle.std.proofs.Common.{◌≡◌, ◌<◌, ◌∙◌, ℕ, List, length, map, get_or, ap₂, sym, arith}
 use Rattle.std.proofs.lemmas.List.{length-map}
+use Rattle.arr_ops.specs.declared.op.Op.{Op}
 use Rattle.arr_heur.specs.Planners.{saving}
+use Rattle.arr_greedy.specs.declared.merging.Block.{Block}
 use Rattle.arr_greedy.proofs.KeyedBlocks.{block_live, saving_is}
+use Rattle.arr_greedy.proofs.Printed.{numbers_in, row_is}
 use Rattle.arr_greedy.proofs.merging.pair_saving.Goals as goal
-
-abbrev pub numbers_in : Vec ℕ Global → List ℕ
-numbers_in b = b.items
 
 pub returns : goal.returns
 returns c =
@@ -15,5 +15,11 @@ returns c =
     let right : c.args.right < length c.args.blocks.now = c.requires.right_in in
     let left_in : c.args.left < length rows = omega arith in
     let right_in : c.args.right < length rows = omega arith in
-    saving_is c.args.costs.now c.row_at.result.now c.row_at-2.result.now c.in_ok-saved.saved c.in_ok-saved.ensures
-    ∙ ap₂ (λ a b. saving c.args.costs.now (a, b)) (c.row_at.ensures ∙ sym (block_live rows c.args.left c.requires.keyed left_in)) (c.row_at-2.ensures ∙ sym (block_live rows c.args.right c.requires.keyed right_in))
+    let list : List Op = c.args.costs.now in
+    let a : Block = get_or c.args.blocks.now c.args.left c.index-blocks-left.result in
+    let b : Block = get_or c.args.blocks.now c.args.right c.index-blocks-right.result in
+    saving_is list a.numbers.items b.numbers.items c.joint_saving.result
+    (c.joint_saving.ensures a.numbers.items b.numbers.items (c.requires.printed c.args.left c.index-blocks-left.result left) (c.requires.printed c.args.right c.index-blocks-right.result right))
+    ∙ ap₂ (λ x y. saving list (x, y))
+    (sym (row_is c.args.blocks.now c.args.left c.index-blocks-left.result left) ∙ sym (block_live rows c.args.left c.requires.keyed left_in))
+    (sym (row_is c.args.blocks.now c.args.right c.index-blocks-right.result right) ∙ sym (block_live rows c.args.right c.requires.keyed right_in))

@@ -1,4 +1,4 @@
-use Rattle.std.proofs.Common.{◌≡◌, ◌∙◌, ◌+◌, ◌*◌, ◌∷◌, [], Vec, Global, ℕ, List, false, length, map, replicate, ap, ap₂, sym, subst, arith, rules}
+use Rattle.std.proofs.Common.{◌≡◌, ◌≤◌, ◌∙◌, ◌+◌, ◌*◌, ◌∷◌, [], ℕ, List, false, length, map, replicate, ap, ap₂, sym, subst, arith, rules}
 use Rattle.std.specs.List.{range_with_len}
 use Rattle.std.proofs.lemmas.List.{length-map, length-replicate}
 use Rattle.arr_ops.specs.declared.op.Op.{Op}
@@ -6,16 +6,14 @@ use Rattle.arr_ops.specs.Plans.{numbered}
 use Rattle.arr_ops.specs.Order.{least_of}
 use Rattle.arr_heur.specs.Planners.{greedy_within, saving, singles}
 use Rattle.arr_greedy.specs.Blocks.{live, Keyed}
-use Rattle.arr_greedy.specs.Fast.{amount, by_step, flag, Told}
+use Rattle.arr_greedy.specs.Fast.{amount, block_at, by_step, flag, Told}
 use Rattle.arr_greedy.proofs.Begun.{forward_at, started}
 use Rattle.arr_greedy.proofs.Grids.{written_back}
-use Rattle.arr_greedy.proofs.GreedyBlocks.{begun_keyed, begun_live, begun_long, clear_flag, single}
+use Rattle.arr_greedy.proofs.GreedyBlocks.{begun_at, begun_keyed, begun_live, begun_long, clear_flag, single}
 use Rattle.arr_greedy.proofs.KeyedBlocks.{numbers_are}
 use Rattle.arr_greedy.proofs.Opening.{keys_start, told_start}
+use Rattle.arr_greedy.proofs.Printed.{numbers_in}
 use Rattle.arr_greedy.proofs.plan.merged.Goals as goal
-
-abbrev pub numbers_in : Vec ℕ Global → List ℕ
-numbers_in b = b.items
 
 pub fill_rows-requires-clause-forward : goal.fill_rows-requires-clause-forward
 fill_rows-requires-clause-forward c x y lx ly l =
@@ -27,16 +25,28 @@ fill_rows-requires-clause-clear c x y lx ly =
     let zeros : c.in_ok-reaches.reaches.items ≡ replicate ((c.len-count.result + 1) * (c.len-count.result + 1)) false = search rules in
     ap (λ r. flag r w x y) (c.as_mut_slice.ensures.value ∙ zeros) ∙ clear_flag (w * w) (x * w + y)
 
+pub saved_table-requires-clause-width : goal.saved_table-requires-clause-width
+saved_table-requires-clause-width c = sym (ap length c.as_slice-2.ensures.value ∙ sym (length-map c.in_ok-blocks.blocks.items numbers_in) ∙ ap length c.in_ok-blocks.ensures.rows ∙ begun_long c.len-count.result)
+
+pub saved_table-requires-clause-few : goal.saved_table-requires-clause-few
+saved_table-requires-clause-few c =
+    let long : length c.as_slice-2.result.now ≡ c.len-count.result + 1 = ap length c.as_slice-2.ensures.value ∙ sym (length-map c.in_ok-blocks.blocks.items numbers_in) ∙ ap length c.in_ok-blocks.ensures.rows ∙ begun_long c.len-count.result in
+    let few : c.len-count.result ≤ 256 = c.len-count.ensures.few in
+    omega arith
+
+pub saved_table-requires-clause-keyed : goal.saved_table-requires-clause-keyed
+saved_table-requires-clause-keyed c = subst (λ (rows : List (List ℕ)). Keyed rows) (sym (ap (map numbers_in) c.as_slice-2.ensures.value ∙ c.in_ok-blocks.ensures.rows)) (begun_keyed c.len-count.result)
+
 pub merge_all-requires-clause-keyed : goal.merge_all-requires-clause-keyed
-merge_all-requires-clause-keyed c = subst (λ (rows : List (List ℕ)). Keyed rows) (sym c.in_ok-blocks.ensures) (begun_keyed c.len-count.result)
+merge_all-requires-clause-keyed c = subst (λ (rows : List (List ℕ)). Keyed rows) (sym c.in_ok-blocks.ensures.rows) (begun_keyed c.len-count.result)
 
 pub merge_all-requires-clause-blocks_in : goal.merge_all-requires-clause-blocks_in
-merge_all-requires-clause-blocks_in c = sym (length-map c.in_ok-blocks.blocks.items numbers_in) ∙ ap length c.in_ok-blocks.ensures ∙ begun_long c.len-count.result
+merge_all-requires-clause-blocks_in c = sym (length-map c.in_ok-blocks.blocks.items numbers_in) ∙ ap length c.in_ok-blocks.ensures.rows ∙ begun_long c.len-count.result
 
 pub merge_all-requires-clause-keys : goal.merge_all-requires-clause-keys
 merge_all-requires-clause-keys c =
     let list : List Op = c.args.graph.now in
-    let begun : live (map numbers_in c.in_ok-blocks.blocks.items) ≡ singles (numbered list) = ap live c.in_ok-blocks.ensures ∙ ap (λ n. live ([] ∷ map single (range_with_len 1 n))) c.len-count.ensures.value ∙ begun_live list in
+    let begun : live (map numbers_in c.in_ok-blocks.blocks.items) ≡ singles (numbered list) = ap live c.in_ok-blocks.ensures.rows ∙ ap (λ n. live ([] ∷ map single (range_with_len 1 n))) c.len-count.ensures.value ∙ begun_live list in
     c.in_ok-keys.ensures.value ∙ ap (range_with_len 1) c.len-count.ensures.value ∙ sym (numbers_are list) ∙ keys_start (numbered list) ∙ ap (map least_of) (sym begun)
 
 pub merge_all-requires-clause-told : goal.merge_all-requires-clause-told
@@ -44,7 +54,7 @@ merge_all-requires-clause-told c =
     let list : List Op = c.args.graph.now in
     let w : ℕ = c.len-count.result + 1 in
     let wide : c.len-count.result ≡ length list = c.len-count.ensures.value in
-    let begun : live (map numbers_in c.in_ok-blocks.blocks.items) ≡ singles (numbered list) = ap live c.in_ok-blocks.ensures ∙ ap (λ n. live ([] ∷ map single (range_with_len 1 n))) c.len-count.ensures.value ∙ begun_live list in
+    let begun : live (map numbers_in c.in_ok-blocks.blocks.items) ≡ singles (numbered list) = ap live c.in_ok-blocks.ensures.rows ∙ ap (λ n. live ([] ∷ map single (range_with_len 1 n))) c.len-count.ensures.value ∙ begun_live list in
     let zeros : c.in_ok-reaches.reaches.items ≡ replicate ((c.len-count.result + 1) * (c.len-count.result + 1)) false = search rules in
     let size : length c.fill_rows.new.rows ≡ w * w = c.fill_rows.ensures.size in
     let long : length c.in_ok-reaches.reaches.items ≡ w * w = ap length zeros ∙ length-replicate (w * w) false in
@@ -57,12 +67,14 @@ merge_all-requires-clause-told c =
     (λ x y lx ly. ap (λ r. flag r w x y) c.as_mut_slice-2.ensures.value ∙ c.in_ok-fuses.ensures.flags x y lx ly)
     (λ x y lx ly. ap (λ r. flag r w x y) c.as_slice.ensures.value ∙ c.in_ok-deps.ensures.flags x y lx ly)
     (λ x y lx ly. subst (λ r. flag r w x y ≡ by_step (flag c.as_slice.result.now w) (flag r w) w x y) (sym same) (c.fill_rows.ensures.filled x y lx ly))
-    (λ x y lx lt ly. ap (λ r. amount r w x y) c.as_mut_slice-4.ensures.value ∙ c.in_ok-saved.ensures.saved x y lx lt ly ∙ ap (λ (l : List Op). saving l (x ∷ [], y ∷ [])) c.requires))))
+    (λ x y lx lt ly. ap (λ r. amount r w x y) c.as_mut_slice-4.ensures.value ∙ c.in_ok-saved.ensures.saved x y lt ly
+    ∙ ap₂ (λ (l : List Op) rows. saving l (block_at x (live rows), block_at y (live rows))) c.requires (ap (map numbers_in) c.as_slice-2.ensures.value ∙ c.in_ok-blocks.ensures.rows)
+    ∙ ap₂ (λ a b. saving list (a, b)) (begun_at c.len-count.result x lx (omega arith)) (begun_at c.len-count.result y (omega arith) ly)))))
 
 pub returns : goal.returns
 returns c =
     let list : List Op = c.args.graph.now in
-    let begun : live (map numbers_in c.in_ok-blocks.blocks.items) ≡ singles (numbered list) = ap live c.in_ok-blocks.ensures ∙ ap (λ n. live ([] ∷ map single (range_with_len 1 n))) c.len-count.ensures.value ∙ begun_live list in
-    c.in_ok-left.ensures ∙ ap (λ bs. live (map numbers_in bs)) c.as_slice-2.ensures.value ∙ c.in_ok-merge_all.ensures
+    let begun : live (map numbers_in c.in_ok-blocks.blocks.items) ≡ singles (numbered list) = ap live c.in_ok-blocks.ensures.rows ∙ ap (λ n. live ([] ∷ map single (range_with_len 1 n))) c.len-count.ensures.value ∙ begun_live list in
+    c.in_ok-left.ensures ∙ ap (λ bs. live (map numbers_in bs)) c.as_slice-3.ensures.value ∙ c.in_ok-merge_all.ensures
     ∙ ap₂ (λ (l : List Op) bs. greedy_within c.len-count.result l bs) c.requires begun
     ∙ ap (λ n. greedy_within n list (singles (numbered list))) c.len-count.ensures.value

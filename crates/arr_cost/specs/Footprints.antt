@@ -1,0 +1,76 @@
+-- What blocks touch, class by class, as rows of 64 bits.
+use Rattle.std.specs.Prelude.{◌≡◌, ℕ, zero, suc, ◌<◌, ◌+◌, ◌*◌, ◌/◌, ◌%◌, ◌==◌, nat_lt, List, Bool, ◌&&◌, ◌||◌, not, map, cond, get_or, length, Option, bit_or}
+use Rattle.std.specs.Int.{bit_at}
+use Rattle.std.specs.List.{flat_map, list_any}
+use Rattle.std.specs.Option.{option_to_list}
+use Rattle.arr_view.specs.Strided.{Strided}
+use Rattle.arr_ops.specs.Costs.{weight}
+use Rattle.arr_ops.specs.Ops.{views}
+use Rattle.arr_ops.specs.declared.op.Op.{Op}
+use Rattle.arr_cost.specs.declared.footprints.Row.{Row}
+use Rattle.arr_cost.specs.declared.touches.Touch.{Touch}
+use Rattle.arr_cost.specs.declared.touches.Touches.{Touches}
+use Rattle.arr_cost.specs.Touches.{base_of, frees_number, makes_number, table_of, touched_by}
+
+abbrev pub has_bit : ℕ → ℕ → Bool
+has_bit word i = bit_at word i == 1
+
+-- the base and the weight of each class
+abbrev pub bases_of : List Op → List ℕ
+bases_of list = map (λ (v : Strided). base_of (flat_map views list) v.base) (flat_map views list)
+
+abbrev pub weights_of : List Op → List ℕ
+weights_of list = map (weight list) (flat_map views list)
+
+-- the view has the class
+abbrev pub is_class : ℕ → Option Touch → Bool
+is_class c o = list_any (λ (t : Touch). t.class == c) (option_to_list o)
+
+abbrev pub reads_class : ℕ → Touches → Bool
+reads_class c t = is_class c t.first || is_class c t.second
+
+abbrev pub writes_class : ℕ → Touches → Bool
+writes_class c t = is_class c t.out
+
+-- the class is one of a base
+abbrev pub base_bit : List ℕ → ℕ → ℕ → Bool
+base_bit bases b c = nat_lt c (length bases) && (b == get_or bases c 0)
+
+-- ---- rows
+
+abbrev pub blank : Row
+blank = record { reads = 0; writes = 0; makes = 0; frees = 0 }
+
+-- the row that has a class
+abbrev pub row_for : List Row → ℕ → Row
+row_for rows c = get_or rows (c / 64) blank
+
+-- one row for those of two blocks
+abbrev pub join : Row → Row → Row
+join a b = record { reads = bit_or a.reads b.reads; writes = bit_or a.writes b.writes; makes = bit_or a.makes b.makes; frees = bit_or a.frees b.frees }
+
+-- a class is touched outside the block: read where its base is not made, or written where its base is not freed
+abbrev pub keeps : Row → ℕ → Bool
+keeps row i = (has_bit row.reads i && not (has_bit row.makes i)) || (has_bit row.writes i && not (has_bit row.frees i))
+
+abbrev pub keeps_class : List Row → ℕ → Bool
+keeps_class rows c = keeps (row_for rows c) (c % 64)
+
+-- one of two blocks touches it outside itself, but not the two as one
+abbrev pub loses : Row → Row → ℕ → Bool
+loses a b i = (keeps a i || keeps b i) && not (keeps (join a b) i)
+
+-- the rows tell of each class whether the block reads it, writes it, and makes or frees its base
+pub record IsFootprint (list : List Op) (block : List ℕ) (rows : List Row) : Type 0 where
+  pub long : length rows ≡ length (bases_of list) / 64 + 1
+  pub reads : (c : ℕ) → c < length (bases_of list) → has_bit (row_for rows c).reads (c % 64) ≡ list_any (reads_class c) (touched_by (table_of list) block)
+  pub writes : (c : ℕ) → c < length (bases_of list) → has_bit (row_for rows c).writes (c % 64) ≡ list_any (writes_class c) (touched_by (table_of list) block)
+  pub makes : (c : ℕ) → c < length (bases_of list) → has_bit (row_for rows c).makes (c % 64) ≡ list_any (makes_number (get_or (bases_of list) c 0)) (touched_by (table_of list) block)
+  pub frees : (c : ℕ) → c < length (bases_of list) → has_bit (row_for rows c).frees (c % 64) ≡ list_any (frees_number (get_or (bases_of list) c 0)) (touched_by (table_of list) block)
+
+-- ---- weights
+
+-- the sum of the weights, from a place on, of those of the next n that pass
+unfoldable pub span : List ℕ → ℕ → ℕ → (ℕ → Bool) → ℕ
+span weights first zero p = 0
+span weights first (suc n) p = span weights first n p + cond (p n) (get_or weights (first + n) 0) 0

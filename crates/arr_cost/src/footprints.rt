@@ -1,0 +1,253 @@
+//! What blocks touch, class by class, as rows of bits, and what two of them save as one.
+ghost use Rattle.std.specs.Prelude.{◌≡◌, ◌≤◌, ◌<◌, ◌+◌, ◌*◌, ◌/◌, ◌%◌, ◌++◌, ◌==◌, ◌&&◌, ◌||◌, ℕ, List, IfOk, cond, get_or, length, min};
+ghost use Rattle.std.specs.List.{All};
+ghost use Rattle.arr_ops.specs.declared.op.Op.{Op};
+ghost use Rattle.arr_cost.specs.Touches.{frees_number, makes_number};
+ghost use Rattle.arr_cost.specs.Footprints.{base_bit, blank, has_bit, is_class, join, keeps, keeps_class, loses, reads_class, row_for, span, writes_class, IsFootprint};
+
+use crate::NoMemory;
+use crate::touches::{Touch, Touches};
+use std::alloc::Global;
+use std::marker::Model;
+
+/// Of 64 classes of views, a bit for each, the first class lowest: those that a block reads, those that it writes, and those whose base it
+/// makes or frees.
+#[derive(Clone, Copy, Debug)]
+pub(crate) struct Row {
+    pub(crate) reads: u64,
+    pub(crate) writes: u64,
+    pub(crate) makes: u64,
+    pub(crate) frees: u64,
+}
+
+/// What a block touches, class by class of identical views (docs/PLANS.md, "Cost"). A contract sees its rows, of 64 classes each.
+#[derive(Debug, Drop)]
+pub struct Footprint {
+    rows: Vec<Row>,
+}
+
+impl Model for Footprint {
+    ghost use Rattle.std.specs.Prelude.{◌≤◌, List, length};
+    ghost use Rattle.arr_cost.specs.declared.footprints.Row.{Row};
+
+    ghost Value = { List Row };
+
+    ghost view = { λ f. f.rows.items };
+
+    ghost invariant = { λ f. length f.rows.items ≤ 64 };
+}
+
+/// The bit of a touch's class, if it is one of the 64 from the first on.
+fn class_bit(touch: &Option<Touch>, first: usize) -> u64
+    requires { first ≤ 4096 }
+    ensures { (i : ℕ) → i < 64 → has_bit result i ≡ is_class (first + i) touch.now }
+{
+    let Some(touch) = touch else {
+        return 0;
+    };
+    if touch.class < first || touch.class >= first + 64 {
+        return 0;
+    }
+    1 << (touch.class - first)
+}
+
+/// The word with a bit more, if it is to be set.
+fn with_bit(word: u64, digit: usize, set: bool) -> u64
+    requires { digit < 64 }
+    ensures { (i : ℕ) → i < 64 → has_bit result i ≡ (has_bit word i || (set && digit == i)) }
+{
+    if set {
+        return word | 1 << digit;
+    }
+    word
+}
+
+fn has_bit(word: u64, digit: usize) -> bool
+    requires { digit < 64 }
+    ensures { result ≡ has_bit word digit }
+{
+    word >> digit & 1 == 1
+}
+
+/// Whether a class is one of a base.
+fn is_based(bases: &[usize], class: usize, base: usize) -> bool
+    ensures { result ≡ base_bit bases.now base class }
+{
+    class < bases.len() && base == bases[class]
+}
+
+/// The bits of those of the 64 classes from the first on that are views of a base.
+fn base_bits(bases: &[usize], first: usize, base: usize) -> u64
+    requires { first ≤ 4096 }
+    ensures { (i : ℕ) → i < 64 → has_bit result i ≡ base_bit bases.now base (first + i) }
+{
+    let mut word = 0;
+    for digit in 0..64 {
+        word = with_bit(word, digit, is_based(bases, first + digit, base));
+    }
+    word
+}
+
+/// The bits of the views of the base that an operation makes.
+fn made_bits(touches: &Touches, bases: &[usize], first: usize) -> u64
+    requires { first ≤ 4096 }
+    ensures { (i : ℕ) → i < 64 → first + i < length bases.now → has_bit result i ≡ makes_number (get_or bases.now (first + i) 0) touches.now }
+{
+    if !touches.makes {
+        return 0;
+    }
+    match &touches.out {
+        Some(touch) => base_bits(bases, first, touch.base),
+        None => 0,
+    }
+}
+
+/// The bits of the views of the base that an operation frees.
+fn freed_bits(touches: &Touches, bases: &[usize], first: usize) -> u64
+    requires { first ≤ 4096 }
+    ensures { (i : ℕ) → i < 64 → first + i < length bases.now → has_bit result i ≡ frees_number (get_or bases.now (first + i) 0) touches.now }
+{
+    match touches.frees {
+        Some(base) => base_bits(bases, first, base),
+        None => 0,
+    }
+}
+
+/// What an operation does with the 64 classes from the first on.
+fn row_of(touches: &Touches, bases: &[usize], first: usize) -> Row
+    requires { first ≤ 4096 }
+    ensures reads { (i : ℕ) → i < 64 → has_bit result.reads i ≡ reads_class (first + i) touches.now }
+    ensures writes { (i : ℕ) → i < 64 → has_bit result.writes i ≡ writes_class (first + i) touches.now }
+    ensures makes { (i : ℕ) → i < 64 → first + i < length bases.now → has_bit result.makes i ≡ makes_number (get_or bases.now (first + i) 0) touches.now }
+    ensures frees { (i : ℕ) → i < 64 → first + i < length bases.now → has_bit result.frees i ≡ frees_number (get_or bases.now (first + i) 0) touches.now }
+{
+    Row {
+        reads: class_bit(&touches.first, first) | class_bit(&touches.second, first),
+        writes: class_bit(&touches.out, first),
+        makes: made_bits(touches, bases, first),
+        frees: freed_bits(touches, bases, first),
+    }
+}
+
+/// What the block of one operation touches, told the base of each class.
+pub(crate) fn footprint_of(
+    alloc: Global,
+    touches: &Touches,
+    bases: &[usize],
+) -> Result<Footprint, NoMemory>
+    requires { length bases.now ≤ 768 }
+    ensures long { IfOk result (λ rows. length rows ≡ length bases.now / 64 + 1) }
+    ensures reads { IfOk result (λ rows. (c : ℕ) → c < length bases.now → has_bit (row_for rows c).reads (c % 64) ≡ reads_class c touches.now) }
+    ensures writes { IfOk result (λ rows. (c : ℕ) → c < length bases.now → has_bit (row_for rows c).writes (c % 64) ≡ writes_class c touches.now) }
+    ensures makes { IfOk result (λ rows. (c : ℕ) → c < length bases.now → has_bit (row_for rows c).makes (c % 64) ≡ makes_number (get_or bases.now c 0) touches.now) }
+    ensures frees { IfOk result (λ rows. (c : ℕ) → c < length bases.now → has_bit (row_for rows c).frees (c % 64) ≡ frees_number (get_or bases.now c 0) touches.now) }
+{
+    let mut rows = Vec::new(alloc);
+    for index in 0..bases.len() / 64 + 1 {
+        rows.push(row_of(touches, bases, 64 * index))?;
+    }
+    Ok(Footprint { rows })
+}
+
+impl Row {
+    /// What two blocks do as one.
+    fn joined(&self, other: &Row) -> Row
+        ensures { result ≡ join self.now other.now }
+    {
+        Row {
+            reads: self.reads | other.reads,
+            writes: self.writes | other.writes,
+            makes: self.makes | other.makes,
+            frees: self.frees | other.frees,
+        }
+    }
+
+    /// The classes that the block touches outside itself.
+    fn kept(&self) -> u64
+        ensures { (i : ℕ) → i < 64 → has_bit result i ≡ keeps self.now i }
+    {
+        self.reads & !self.makes | self.writes & !self.frees
+    }
+
+    /// The classes that both blocks touch outside themselves.
+    fn shared(&self, other: &Row) -> u64
+        ensures { (i : ℕ) → i < 64 → has_bit result i ≡ (keeps self.now i && keeps other.now i) }
+    {
+        self.kept() & other.kept()
+    }
+
+    /// The classes that one of the blocks touches outside itself, but not the two as one.
+    fn lost(&self, other: &Row) -> u64
+        ensures { (i : ℕ) → i < 64 → has_bit result i ≡ loses self.now other.now i }
+    {
+        (self.kept() | other.kept()) & !self.joined(other).kept()
+    }
+}
+
+/// What a class weighs, if it counts.
+fn weight_if(counts: bool, weights: &[u64], class: usize) -> u64
+    requires { All (λ w. w ≤ 8388608) weights.now }
+    ensures value { result ≡ cond counts (get_or weights.now class 0) 0 }
+    ensures small { result ≤ 8388608 }
+{
+    if counts && class < weights.len() {
+        weights[class]
+    } else {
+        0
+    }
+}
+
+/// The sum with the weights of those of the 64 classes from the first on that have a bit.
+fn add_weights(weights: &[u64], first: usize, word: u64, sum: u64) -> u64
+    requires low { first ≤ 4096 }
+    requires each { All (λ w. w ≤ 8388608) weights.now }
+    requires small { sum ≤ 1099511627776 }
+    ensures value { result ≡ sum + span weights.now first 64 (has_bit word) }
+    ensures small { result ≤ sum + 536870912 }
+{
+    if word == 0 {
+        return sum;
+    }
+    let mut total = sum;
+    for digit in 0..64 {
+        total += weight_if(has_bit(word, digit), weights, first + digit);
+    }
+    total
+}
+
+/// What the classes weigh that both blocks touch outside themselves, and those that the two as one don't.
+fn saved_weight(weights: &[u64], a: &[Row], b: &[Row]) -> u64
+    requires each { All (λ w. w ≤ 8388608) weights.now }
+    requires few { length a.now ≤ 64 }
+    ensures { result ≡ span weights.now 0 (64 * min (length a.now) (length b.now)) (λ c. keeps_class a.now c && keeps_class b.now c) + span weights.now 0 (64 * min (length a.now) (length b.now)) (λ c. loses (row_for a.now c) (row_for b.now c) (c % 64)) }
+{
+    let mut sum = 0;
+    for index in 0..a.len().min(b.len()) {
+        let shared = a[index].shared(&b[index]);
+        let lost = a[index].lost(&b[index]);
+        let some = add_weights(weights, 64 * index, shared, sum);
+        sum = add_weights(weights, 64 * index, lost, some);
+    }
+    sum
+}
+
+impl Footprint {
+    /// What two blocks of a list touch as one (docs/PLANS.md, "Cost"). Want of memory is its one refusal.
+    pub fn joined(&self, alloc: Global, other: &Footprint) -> Result<Footprint, NoMemory>
+        ensures { IfOk result (λ f. (list : List Op) (x y : List ℕ) → IsFootprint list x self.now → IsFootprint list y other.now → IsFootprint list (x ++ y) f) }
+    {
+        let mut rows = Vec::new(alloc);
+        for index in 0..self.rows.len().min(other.rows.len()) {
+            rows.push(self.rows[index].joined(&other.rows[index]))?;
+        }
+        Ok(Footprint { rows })
+    }
+
+    /// What the two blocks save as one, told what each class weighs.
+    pub(crate) fn saving(&self, weights: &[u64], other: &Footprint) -> u64
+        requires { All (λ w. w ≤ 8388608) weights.now }
+        ensures { result ≡ span weights.now 0 (64 * min (length self.now) (length other.now)) (λ c. keeps_class self.now c && keeps_class other.now c) + span weights.now 0 (64 * min (length self.now) (length other.now)) (λ c. loses (row_for self.now c) (row_for other.now c) (c % 64)) }
+    {
+        saved_weight(weights, self.rows.as_slice(), other.rows.as_slice())
+    }
+}
