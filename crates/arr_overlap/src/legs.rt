@@ -1,5 +1,5 @@
 //! Where steps of given sizes lead.
-ghost use Rattle.std.specs.Prelude.{ℕ, ◌≡◌, ◌≤◌, ◌<◌, ◌+◌, [], ◌∷◌, true, length};
+ghost use Rattle.std.specs.Prelude.{ℕ, ◌≡◌, ◌≤◌, ◌<◌, ◌+◌, [], ◌∷◌, Some, true, false, length};
 ghost use Rattle.arr_overlap.specs.Legs.{reach, AreLegs, LeadTo};
 
 use arrayvec::ArrayVec;
@@ -26,24 +26,37 @@ pub(crate) fn reach(legs: &[Leg]) -> u64
     reach
 }
 
-/// Whether steps along the legs lead from 0 to a target. Only as many steps of a leg are tried as leave what the others reach: few,
-/// where long steps come first.
-pub(crate) fn lead_to(legs: &[Leg], target: u64) -> bool
+/// Whether steps along the legs lead from 0 to a target; `None` where it may take more tries than are allowed. Only as many steps of a
+/// leg are tried as leave what the others reach: few, where long steps come first.
+fn lead_to(legs: &[Leg], target: u64, tries: u64) -> Option<bool>
     requires { AreLegs 8 legs.now }
-    ensures reached { result ≡ true → LeadTo legs.now target }
-    ensures missed { LeadTo legs.now target → result ≡ true }
+    ensures reached { result ≡ Some true → LeadTo legs.now target }
+    ensures missed { result ≡ Some false → LeadTo legs.now target → ⊥ }
 {
     let Some((leg, others)) = legs.split_first() else {
-        return target == 0;
+        return Some(target == 0);
     };
     let least = target.saturating_sub(reach(others)).div_ceil(leg.step);
     let most = (target / leg.step).min(leg.places - 1);
+    let counts = (most + 1).saturating_sub(least);
+    if counts > tries {
+        return None;
+    }
+    let left = tries / counts.max(1);
     for count in least..most + 1 {
-        if lead_to(others, target - count * leg.step) {
-            return true;
+        if lead_to(others, target - count * leg.step, left)? {
+            return Some(true);
         }
     }
-    false
+    Some(false)
+}
+
+/// Whether so many tries tell that no steps along the legs lead from 0 to a target.
+pub(crate) fn miss(legs: &[Leg], target: u64, tries: u64) -> bool
+    requires { AreLegs 8 legs.now }
+    ensures { result ≡ true → LeadTo legs.now target → ⊥ }
+{
+    matches!(lead_to(legs, target, tries), Some(false))
 }
 
 /// The index of the first leg whose steps are no longer than a size, or how many legs there are.

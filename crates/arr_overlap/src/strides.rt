@@ -3,9 +3,12 @@ ghost use Rattle.std.specs.Prelude.{ℕ, ◌≡◌, ◌≤◌, ◌+◌, ◌∷�
 ghost use Rattle.arr_view.specs.Views.{is_view, repeats};
 ghost use Rattle.arr_overlap.specs.Legs.{both_ways_of, reach, AreLegs, IsOpen, LeadTo};
 
-use crate::legs::{Leg, add, lead_to, reach};
+use crate::legs::{Leg, add, miss, reach};
 use arr_view::View;
 use arrayvec::ArrayVec;
+
+/// As many as a walk over the largest view takes steps.
+const MOST_TRIES: u64 = 1_048_576;
 
 /// Whether a dimension longer than 1 stays at one element.
 fn stands_still(view: &View) -> bool
@@ -37,7 +40,7 @@ fn leads_back(legs: &mut ArrayVec<Leg, 8>, length: u64, step: u64) -> bool
     let middle = reach(legs.as_slice()) / 2;
     let places = length - 1;
     add(legs, Leg { places, step });
-    if step <= middle && lead_to(legs.as_slice(), middle - step) {
+    if step <= middle && !miss(legs.as_slice(), middle - step, MOST_TRIES) {
         return true;
     }
     let places = length + 1;

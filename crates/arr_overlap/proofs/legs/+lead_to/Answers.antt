@@ -1,4 +1,4 @@
-use Rattle.std.proofs.Common.{◌≡◌, ℕ, ◌≤◌, ◌<◌, ◌+◌, ◌-◌, ◌*◌, ◌/◌, List, ◌∷◌, length, true, false, refl, ap, sym, ◌∙◌, subst, arith}
+use Rattle.std.proofs.Common.{◌≡◌, ℕ, ◌≤◌, ◌<◌, ◌+◌, ◌-◌, ◌*◌, ◌/◌, List, ◌∷◌, length, Some, true, false, refl, ap, sym, ◌∙◌, subst, arith}
 use Rattle.std.specs.Prelude.{nat_lt, min}
 use Rattle.std.specs.Int.{div_ceil}
 use Rattle.std.proofs.lemmas.Bool.{false≢true, ltb-true, ltb-false}
@@ -26,11 +26,11 @@ loop-count-preserved t c k low high h =
           let same : k ≡ c.loop-count.count = omega arith in
           let here : LeadTo c.in-Some.others.now (c.args.target - c.loop-count.count * c.in-Some.leg.now.step) =
           subst (λ i. LeadTo c.in-Some.others.now (c.args.target - i * c.in-Some.leg.now.step)) same h in
-          false≢true (sym c.if-lead_to.false ∙ c.lead_to.ensures.missed here)
+          c.lead_to.ensures.missed (c.in_ok-lead_to.was ∙ ap Some c.if-branch.false) here
     ] refl
 
 pub returns-clause-missed : goal.returns-clause-missed
-returns-clause-missed t c h =
+returns-clause-missed t c told h =
     let whole : c.args.legs.now ≡ c.in-Some.leg.now ∷ c.in-Some.others.now = c.in-Some.ensures.cases.0 in
     let ls : List Leg = c.in-Some.others.now in
     let l : Leg = c.in-Some.leg.now in

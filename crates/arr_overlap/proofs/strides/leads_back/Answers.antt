@@ -10,8 +10,8 @@ reach-middle-requires c = subst (AreLegs 8) (sym c.as_slice.ensures.value) (of_m
 pub add-requires-clause-legs : goal.add-requires-clause-legs
 add-requires-clause-legs c = of_more_dimensions 6 7 c.args.legs.now.items (omega arith) c.requires.legs
 
-pub lead_to-requires : goal.lead_to-requires
-lead_to-requires c = subst (AreLegs 8) (sym c.as_slice-then-step-middle.ensures.value) (of_more_dimensions 7 8 c.add.new.legs.items (omega arith) (c.add.ensures.legs 6 c.requires.legs))
+pub miss-requires : goal.miss-requires
+miss-requires c = subst (AreLegs 8) (sym c.as_slice-then-step-middle.ensures.value) (of_more_dimensions 7 8 c.add.new.legs.items (omega arith) (c.add.ensures.legs 6 c.requires.legs))
 
 pub returns-clause-reach : goal.returns-clause-reach
 returns-clause-reach c told =
