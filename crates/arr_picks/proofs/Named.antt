@@ -1,8 +1,8 @@
 -- The numbers that an index names, in lists of native numbers.
-use Rattle.std.proofs.Common.{◌≡◌, ℕ, zero, suc, ◌+◌, ◌-◌, ◌<◌, ◌≤◌, ℤ, pos, List, [], ◌∷◌, length, map, get_or, take, drop, true, refl, ap, sym, ◌∙◌, arith, drop-cons}
-use Rattle.std.proofs.lemmas.Bool.{ltb-true}
-use Rattle.std.proofs.lemmas.List.{drop-map, get_or-map, length-map, take-map}
-use Rattle.std.specs.Prelude.{nat_lt}
+use Rattle.std.proofs.Common.{◌≡◌, ℕ, zero, suc, ◌+◌, ◌-◌, ◌<◌, ◌≤◌, ℤ, pos, List, [], ◌∷◌, length, map, get_or, take, drop, true, refl, ap, ap₂, sym, ◌∙◌, arith, drop-cons}
+use Rattle.std.proofs.lemmas.Bool.{lt-ltb, ltb-true}
+use Rattle.std.proofs.lemmas.List.{drop-map, get_or-map, length-map, take-map, take_all}
+use Rattle.std.specs.Prelude.{◌&&◌, nat_lt}
 use Rattle.std.specs.List.{range_with_len, slice_range}
 use Rattle.arr_native.proofs.Entries.{entry_is}
 use Rattle.arr_view.specs.Strided.{Strided}
@@ -65,3 +65,15 @@ row_numbers number index v start end law row all from to =
     ∙ ap (λ k. take (end - start) (drop k (map number index))) (sym from)
     ∙ ap (take (end - start)) (drop-map number start index)
     ∙ take-map number (end - start) (drop start index)
+
+-- ---- numbers that were put in order
+
+pub ordered_length : {T : Type 0} (number : T → ℤ) (ns ordered : List T) (es : List ℕ) → map number ordered ≡ numbers_of (map number ns) es → length ordered ≡ length es
+ordered_length number ns ordered es e = sym (length-map ordered number) ∙ ap length e ∙ length-map es (λ p. get_or (map number ns) p (pos 0))
+
+pub below_row : (n start count : ℕ) → start + count ≤ n → AllBelow n (range_with_len start count)
+below_row n start zero l = refl
+below_row n start (suc count) l = ap₂ (λ a b. a && b) (lt-ltb start n (omega arith)) (below_row n (start + 1) count (omega arith))
+
+pub row_whole : (ns : List ℤ) (n : ℕ) → n ≡ length ns → numbers_of ns (range_with_len 0 n) ≡ ns
+row_whole ns n e = row_is ns 0 n (omega arith) ∙ take_all n ns (omega arith)

@@ -73,10 +73,8 @@ fn picked_by_walk<T: Native, I: Index>(
     Ok(picked)
 }
 
-/// For each number of an index, the number of a view at the position that it names (docs/LANGUAGE.md, "Gather and scatter"). Given are
-/// the numbers of the bases of both: those of the view stand at its elements, and those of the index at the elements of `places`. An Err
-/// is want of memory.
-pub fn picked<T: Native, I: Index>(
+/// The numbers of a view that the numbers of another view name, where the numbers of the bases of both are given.
+fn picked_by<T: Native, I: Index>(
     alloc: Global,
     numbers: &[T],
     view: &View,
@@ -94,4 +92,44 @@ pub fn picked<T: Native, I: Index>(
     let start = places.start() as usize;
     let end = start + places.positions() as usize;
     picked_by_row(alloc, numbers, view, &index[start..end])
+}
+
+/// The numbers of a view one after another, where the numbers of its base are given.
+fn in_order<T: Native>(alloc: Global, numbers: &[T], view: &View) -> Result<Vec<T>, NoMemory>
+    requires { AllBelow (length numbers.now) (elements view.now) }
+    ensures { IfOk result (λ v. map T.number v.items ≡ numbers_of (map T.number numbers.now) (elements view.now)) }
+{
+    let mut ordered = Vec::with_capacity(alloc, view.positions() as usize)?;
+    for place in Walk::new(view) {
+        ordered.push_reserved(numbers[place as usize].itself());
+    }
+    Ok(ordered)
+}
+
+/// For each number of an index, the number of a view at the position that it names (docs/LANGUAGE.md, "Gather and scatter"). Given are
+/// the numbers of the bases of both: those of the view stand at its elements, and those of the index at the elements of `places`. An Err
+/// is want of memory.
+///
+/// The numbers of a view with gaps are put in order first, unless the index has fewer positions than the view.
+pub fn picked<T: Native, I: Index>(
+    alloc: Global,
+    numbers: &[T],
+    view: &View,
+    index: &[I],
+    places: &View,
+) -> Result<Vec<T>, NoMemory>
+    requires inside { AllBelow (length numbers.now) (elements view.now) }
+    requires there { AllBelow (length index.now) (elements places.now) }
+    ensures { IfOk result (λ v. map T.number v.items
+        ≡ picked (numbers_of (map T.number numbers.now) (elements view.now)) (numbers_of (map I.number index.now) (elements places.now))) }
+{
+    let count = view.positions();
+    if view.is_gapless() || places.positions() < count {
+        return picked_by(alloc, numbers, view, index, places);
+    }
+    let ordered = in_order(alloc, numbers, view)?;
+    match View::whole(view.base(), &[count]) {
+        Some(row) => picked_by(alloc, &ordered, &row, index, places),
+        None => picked_by(alloc, numbers, view, index, places),
+    }
 }

@@ -5,17 +5,18 @@
 //!
 //! The promise: a store is a finite map from base to type and list of numbers. `load` gives the number that is kept, `store`
 //! changes that one number, `make` adds a base of zeros and `drop_base` takes one away; each raises its own counter and no other,
-//! and none falls. Every number is of its base's type. A refused `make` or `keep` changes nothing, and only what makes a store, a base or
+//! and none falls. Every number is of its base's type. A refused `make` or `pick` changes nothing, and only what makes a store, a base or
 //! slots takes memory. `load` and `store` take constant time: an index leads from the base to its buffer. `load_run` and
 //! `store_run` move numbers that lie a stride apart ([`Run`]) between a base and a [`Buffer`] of its type, and count each of them;
-//! `put_run` puts such numbers into a slot. `buffer` shows the numbers of a base where they stand, and `keep` takes a buffer that was
-//! filled apart for a base that is not there; whoever reads and fills so says by `count` how many bytes that were.
+//! `put_run` puts such numbers into a slot. `pick` reads by an index: it makes a base of the numbers that the index names, and counts what
+//! it loaded and stored. Each public call that reaches numbers of a base counts them itself, and no other call changes a counter.
 //!
 //! The definitions: `specs/Stored.antt` has what a contract sees of a store, its bases as a function from numbers to cells (`cells`),
-//! as `Memory` of arr_ops has them, and the memory that is made of them (`memory_of`); `specs/Slots.antt` has the slots as such a
-//! function (`slots_of`) and the slots of a list (`blank_slots`); `specs/Cells.antt` what calls read of one cell, and `assigned`, a
-//! function changed at one number; `specs/Runs.antt` the places of a run. `cell_of` (`specs/Buffers.antt`) is the type and the numbers
-//! of a buffer. How fields show these (`Tables`, `Pages`) no clause names.
+//! as `Memory` of arr_ops has them, the memory that is made of them (`memory_of`), and the cell that reading by an index makes
+//! (`picked_cell`); `specs/Slots.antt` has the slots as such a function (`slots_of`) and the slots of a list (`blank_slots`);
+//! `specs/Cells.antt` what calls read of one cell, and `assigned`, a function changed at one number; `specs/Runs.antt` the places of a
+//! run. `cell_of` (`specs/Buffers.antt`) is the type and the numbers of a buffer. How fields show these (`Tables`, `Pages`) no clause
+//! names.
 #![tactic(auto)]
 
 mod buffer;
