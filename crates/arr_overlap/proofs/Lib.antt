@@ -7,5 +7,6 @@ pub mod Columns
 pub mod Runs
 pub mod Leading
 pub mod Steps
+pub mod Shared
 mod ClassesSeen
 mod ClassesMeet

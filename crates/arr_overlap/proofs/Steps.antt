@@ -19,7 +19,7 @@ use Rattle.arr_overlap.proofs.Marking.{found_again, neither, or_true}
 
 -- ---- steps
 
-steps_size : (k : ℕ) (s : ℤ) → unsigned_abs (steps k s) ≡ k * unsigned_abs s
+pub steps_size : (k : ℕ) (s : ℤ) → unsigned_abs (steps k s) ≡ k * unsigned_abs s
 steps_size k s = ap unsigned_abs (steps_is k s) ∙ unsigned_abs-mul (pos k) s
 
 steps_on : (i k : ℕ) (s : ℤ) → steps (i + k) s ≡ steps i s +ℤ steps k s
@@ -59,7 +59,7 @@ way_between n s i j x y d a b e f g =
 
 -- ---- one way in each dimension
 
-abbrev Each : (ℕ → ℤ → ℤ → Type 0) → List ℕ → List ℤ → List ℤ → Type 0
+abbrev pub Each : (ℕ → ℤ → ℤ → Type 0) → List ℕ → List ℤ → List ℤ → Type 0
 Each P [] [] [] = Unit {0}
 Each P (n ∷ ns) (s ∷ ss) (d ∷ ds) = P n s d × Each P ns ss ds
 Each P _ _ _ = ⊥
@@ -67,7 +67,7 @@ Each P _ _ _ = ⊥
 abbrev Ways : List ℕ → List ℤ → List ℤ → Type 0
 Ways = Each Way
 
-abbrev total : List ℤ → ℤ
+abbrev pub total : List ℤ → ℤ
 total [] = pos 0
 total (d ∷ ds) = d +ℤ total ds
 
@@ -163,12 +163,12 @@ closed n s k ns ss ds some few ways sum free =
 -- ---- the indices that lead to an element
 
 -- x is so many steps of s, fewer than n
-record Move (n : ℕ) (s x : ℤ) : Type 0 where
+pub record Move (n : ℕ) (s x : ℤ) : Type 0 where
   pub index : ℕ
   pub below : index < n
   pub is : x ≡ steps index s
 
-record Found (ns : List ℕ) (ss : List ℤ) (z : ℤ) (x : ℕ) : Type 0 where
+pub record Found (ns : List ℕ) (ss : List ℤ) (z : ℤ) (x : ℕ) : Type 0 where
   pub moves : List ℤ
   pub each : Each Move ns ss moves
   pub place : pos x ≡ z +ℤ total moves
@@ -194,7 +194,7 @@ step_found f (suc n) s z x e =
           record { index = suc later.index; below = omega arith; here = subst (λ y. has (map to_place (f y)) x ≡ true) same later.here }
     ] refl
 
-found : (ns : List ℕ) (ss : List ℤ) (z : ℤ) (x : ℕ) → length ss ≡ length ns → Inside ns ss z → has (map to_place (places ns ss z)) x ≡ true → Found ns ss z x
+pub found : (ns : List ℕ) (ss : List ℤ) (z : ℤ) (x : ℕ) → length ss ≡ length ns → Inside ns ss z → has (map to_place (places ns ss z)) x ≡ true → Found ns ss z x
 found [] [] (pos n) x same inside e =
     let here : x ≡ n = eqb-true x n (alone (x == n) e) in
     let place : pos x ≡ pos n +ℤ pos 0 = omega (arith, ints) in

@@ -1,5 +1,5 @@
 -- Where steps of given sizes lead.
-use Rattle.std.specs.Prelude.{◌≡◌, ℕ, ◌+◌, ◌-◌, ◌*◌, ◌<◌, ◌≤◌, ℤ, List, [], ◌∷◌, Bool, true, cond, length, nat_le, ◌&&◌, unsigned_abs}
+use Rattle.std.specs.Prelude.{◌≡◌, ℕ, ◌+◌, ◌-◌, ◌*◌, ◌<◌, ◌≤◌, ℤ, List, [], ◌∷◌, Bool, true, cond, length, nat_le, ◌&&◌, unsigned_abs, ◌==◌}
 use Rattle.std.specs.List.{list_all}
 use Rattle.arr_overlap.specs.declared.legs.Leg.{Leg}
 
@@ -43,3 +43,8 @@ both_ways _ _ = []
 abbrev pub IsOpen : ℕ → ℕ → List Leg → Type 0
 IsOpen length step legs =
     (1 ≤ step) × ((target : ℕ) → (target + step) + (target + step) ≡ reach legs → LeadTo (record { places = length - 1; step = step } ∷ legs) target → ⊥)
+
+-- a leg for each dimension of a view that moves, before other legs
+abbrev pub with_dimensions : List ℕ → List ℤ → List Leg → List Leg
+with_dimensions (n ∷ ns) (s ∷ ss) legs = with_dimensions ns ss (cond (unsigned_abs s == 0) legs (record { places = n; step = unsigned_abs s } ∷ legs))
+with_dimensions _ _ legs = legs

@@ -6,6 +6,7 @@ ghost use Rattle.arr_overlap.specs.Classes.{firsts, overlaps_among, view_at, Are
 use crate::NoMemory;
 use crate::filters::{Outline, outline_of, told_apart};
 use crate::meeting::marked;
+use crate::pairs::steps_miss;
 use arr_sets::Bits;
 use arr_view::View;
 use indexmap::IndexSet;
@@ -90,7 +91,7 @@ fn has_start(views: &[View], marks: &[Option<Bits>], at: usize, other: usize) ->
 }
 
 /// Whether the views at two places overlap. Where the outlines don't tell, the elements of the first are marked; where the start of the
-/// other is not among them, those of the other too.
+/// other is not among them, and the strides don't tell either, those of the other too.
 fn met(
     alloc: Global,
     views: &[View],
@@ -118,6 +119,9 @@ fn met(
     mark(alloc, views, marks, at)?;
     if has_start(views, marks.as_slice(), at, other) {
         return Ok(true);
+    }
+    if steps_miss(&views[at], &views[other]) {
+        return Ok(false);
     }
     mark(alloc, views, marks, other)?;
     match (&marks[at], &marks[other]) {

@@ -21,6 +21,7 @@ mod filters;
 mod fronts;
 mod legs;
 mod meeting;
+mod pairs;
 mod strides;
 
 pub use alike::identical;

@@ -1,6 +1,7 @@
-use Rattle.std.proofs.Common.{◌≡◌, ◌∙◌, Some, None, true, get_or, ap, length, sym, arith}
+use Rattle.std.proofs.Common.{◌≡◌, ◌∙◌, Bool, Some, None, true, false, get_or, refl, ap, ap₂, length, sym, arith}
+use Rattle.std.specs.Prelude.{◌==◌, ◌&&◌}
 use Rattle.arr_view.specs.Strided.{Strided}
-use Rattle.arr_view.specs.Views.{is_view, overlap}
+use Rattle.arr_view.specs.Views.{elements, is_view, overlap, share}
 use Rattle.arr_overlap.specs.Classes.{view_at}
 use Rattle.arr_overlap.proofs.Apart.{meets_itself}
 use Rattle.arr_overlap.proofs.ClassesMeet.{any_default, marks_decide, view_there}
@@ -27,3 +28,17 @@ returns-in-Some-Some-clause-value c =
     let other : get_or marks c.args.other None ≡ Some c.in-Some-Some.there =
     any_default marks c.args.other None c.index-2.result.now (let l = c.requires.other in omega arith) ∙ sym c.index-2.ensures ∙ c.in-Some-Some.is-1 in
     c.meets.ensures ∙ marks_decide views marks c.args.at c.args.other c.in-Some-Some.here c.in-Some-Some.there c.in_ok-mark-2.ensures.marked c.requires.at c.requires.other law same row other
+
+and_none : (b : Bool) → (b && false) ≡ false
+and_none true = refl
+and_none false = refl
+
+pub returns-then-steps_miss-clause-value : goal.returns-then-steps_miss-clause-value
+returns-then-steps_miss-clause-value c =
+    let views = c.args.views.now in
+    let v : Strided = c.index-views-at-2.result in
+    let w : Strided = c.index-views-other-2.result in
+    let here : view_at views c.args.at ≡ v = view_there views c.args.at v c.requires.at c.index-views-at-2.is in
+    let there : view_at views c.args.other ≡ w = view_there views c.args.other w c.requires.other c.index-views-other-2.is in
+    let none : share (elements v) (elements w) ≡ false = c.steps_miss.ensures c.if-steps_miss.true in
+    sym (ap₂ overlap here there ∙ ap (λ b. (v.base == w.base) && b) none ∙ and_none (v.base == w.base))
