@@ -1,5 +1,5 @@
 -- What holds of the operations of a block of a legal plan.
-use Rattle.std.proofs.Common.{◌≡◌, ℕ, List, ◌∷◌, ◌++◌, true, ap₂}
+use Rattle.std.proofs.Common.{◌≡◌, ℕ, List, true, ap₂}
 use Rattle.std.specs.Prelude.{◌&&◌}
 use Rattle.std.specs.List.{AllByRecursion, list_all}
 use Rattle.arr_ops.specs.declared.op.Op.{Op}

@@ -1,7 +1,7 @@
 -- The buffers of a block, one operation after another.
-use Rattle.std.proofs.Common.{◌≡◌, ℕ, zero, suc, ◌+◌, ◌<◌, ◌≤◌, List, [], ◌∷◌, ◌++◌, Bool, true, false, cond, not, ◌||◌, ◌&&◌, Option, Some, None, length, length-append, take, drop, get_or, map, refl, ap, ap₂, sym, subst, ◌∙◌, arith}
+use Rattle.std.proofs.Common.{◌≡◌, ℕ, zero, suc, ◌+◌, ◌<◌, List, [], ◌∷◌, ◌++◌, Bool, true, false, cond, not, ◌||◌, ◌&&◌, Option, Some, None, length, length-append, take, drop, get_or, map, refl, ap, ap₂, sym, subst, ◌∙◌, arith}
 use Rattle.std.specs.Prelude.{◌==◌, nat_eq, is_none, pos, replicate}
-use Rattle.std.specs.List.{AllByRecursion, filter, flat_map, list_all, list_any}
+use Rattle.std.specs.List.{AllByRecursion, filter, list_all, list_any}
 use Rattle.std.specs.Option.{option_to_list}
 use Rattle.std.proofs.lemmas.Bool.{eq-eqb, eqb-true, eqb-false, ne_eqb, false≢true}
 use Rattle.std.proofs.lemmas.List.{append-nil, take_more}
@@ -10,14 +10,14 @@ use Rattle.std.proofs.lemmas.Grind.{flat_map-append}
 use Rattle.arr_view.specs.Strided.{Strided}
 use Rattle.arr_view.specs.Views.{has}
 use Rattle.arr_ops.specs.declared.op.Op.{Op}
-use Rattle.arr_ops.specs.Ops.{creates, freed_by, inputs, makes_base, named, outputs, views}
+use Rattle.arr_ops.specs.Ops.{creates, freed_by, inputs, makes_base, named, outputs}
 use Rattle.arr_ops.specs.Formed.{all_pairs, may_precede}
 use Rattle.arr_ops.specs.Fits.{fits, op_fits}
 use Rattle.arr_ops.specs.Memory.{Cell, Memory}
 use Rattle.arr_ops.specs.Traffic.{contracted, created}
 use Rattle.arr_ops.proofs.Pairs.{All_weaker, Pairs}
-use Rattle.arr_ops.proofs.Spots.{all_left, created_absent, none_from, pairs_before}
-use Rattle.arr_ops.proofs.Tests.{all_of, both_left, both_right, pairs_of}
+use Rattle.arr_ops.proofs.Spots.{all_left, created_absent, pairs_before}
+use Rattle.arr_ops.proofs.Tests.{all_of, both_right, pairs_of}
 use Rattle.arr_strips.specs.Columns.{count, opened_by, opening}
 use Rattle.arr_strips.proofs.Sames.{any_all}
 use Rattle.arr_strips.proofs.Stages.{names_views, unmade}
@@ -33,7 +33,7 @@ split_at [] i x l e = absurd (omega arith)
 split_at (y ∷ xs) zero x l e = ap (λ z. z ∷ xs) (sym e)
 split_at (y ∷ xs) (suc i) x l e = ap (λ zs. y ∷ zs) (split_at xs i x (omega arith) e)
 
-any_at : {X : Type 0} (p : X → Bool) (front back : List X) (x : X) → p x ≡ true → list_any p (front ++ x ∷ back) ≡ true
+pub any_at : {X : Type 0} (p : X → Bool) (front back : List X) (x : X) → p x ≡ true → list_any p (front ++ x ∷ back) ≡ true
 any_at p [] back x h = ap (λ b. b || list_any p back) h
 any_at p (y ∷ front) back x h = elim (p y) as (λ b. (b || list_any p (front ++ x ∷ back)) ≡ true) [ true ↦ refl | false ↦ any_at p front back x h ]
 

@@ -3,14 +3,17 @@
 //! [`open`] makes the buffers that a block needs.
 //!
 //! The promise: `open` makes exactly the buffers of the bases that the block creates and does not free, and nothing else changes; where it is
-//! refused, some first of them may stand.
+//! refused, some first of them may stand. `serial_blocks` is the law of blocks with a serial operation: that operation stands among FREEs
+//! alone, and decides what the block leaves.
 //!
-//! The definitions: `specs/Opened.antt` has what opening leaves (`OpenedFor`); the operations of a block are those of arr_contract, and
-//! what they do is `eager` of arr_ops (docs/PLANS.md, "Running a block").
+//! The definitions: `specs/Opened.antt` has what opening leaves (`OpenedFor`), `specs/Laws.antt` the law; the operations of a block are
+//! those of arr_contract, and what they do is `eager` of arr_ops (docs/PLANS.md, "Running a block").
 #![tactic(auto)]
 
+mod laws;
 mod opening;
 
+pub use laws::serial_blocks;
 pub use opening::open;
 
 /// Want of memory.

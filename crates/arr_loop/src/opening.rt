@@ -20,12 +20,7 @@ fn has(bases: &[u32], base: u32) -> bool
 }
 
 /// Makes the buffer of the base that an operation creates, unless it is a contracted one.
-fn open_base(
-    alloc: Global,
-    op: &Op,
-    contracted: &[u32],
-    store: &mut Store,
-) -> Result<(), NoMemory>
+fn open_base(alloc: Global, op: &Op, contracted: &[u32], store: &mut Store) -> Result<(), NoMemory>
     requires absent { list_all (λ b. is_none (cells store.old b)) (filter (λ b. not (has contracted.now b)) (made_by op.now)) ≡ true }
     requires room { store.old.made < 2 ^ 62 }
     ensures bases { OnOk result ((b : ℕ) → cells store.new b ≡ cond (has contracted.now b) (cells store.old b) (opened_by op.now b (cells store.old b))) }

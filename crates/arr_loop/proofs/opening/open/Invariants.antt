@@ -1,4 +1,4 @@
-use Rattle.std.proofs.Common.{◌≡◌, ◌+◌, ◌≤◌, take}
+use Rattle.std.proofs.Common.{◌+◌, ◌≤◌, take}
 use Rattle.arr_loop.specs.Opened.{OpenedFor}
 use Rattle.arr_loop.proofs.opening.open.Given as goal
 

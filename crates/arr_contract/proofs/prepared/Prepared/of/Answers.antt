@@ -1,6 +1,5 @@
-use Rattle.std.proofs.Common.{◌≡◌, ◌∙◌, ◌≤◌, List, length, ap, arith, subst, sym, rules, vec_len, true}
+use Rattle.std.proofs.Common.{◌≡◌, ◌∙◌, ◌≤◌, length, ap, arith, rules}
 use Rattle.std.specs.List.{list_any}
-use Rattle.arr_ops.specs.declared.op.Op.{Op}
 use Rattle.arr_ops.specs.Costs.{reads, writes}
 use Rattle.arr_ops.specs.Ops.{serial}
 use Rattle.arr_ops.specs.Plans.{numbered, ops_of}
@@ -24,11 +23,12 @@ invariant_of-result c =
     let long : length c.in_ok-ops.ops.items ≡ length (ops_of (numbered c.args.ops.now) c.args.block.now) = ap length same in
     let few : length (ops_of (numbered c.args.ops.now) c.args.block.now) ≤ length c.args.ops.now = few_ops c.args.ops.now c.args.block.now in
     let most : length c.args.ops.now ≤ 256 = c.requires.few in
-    let numbers : length c.in_ok-numbers.numbers.items ≡ c.in_ok-count.count = search rules in
-    (ap may_share_block same ∙ shares_block c.args.ops.now c.args.block.now c.requires.formed c.requires.block,
-    omega arith,
-    c.in_ok-read_views.ensures ∙ ap reads c.as_slice.ensures.value,
-    c.in_ok-written_views.ensures ∙ ap writes c.as_slice-2.ensures.value,
-    c.in_ok-contracted_bases.ensures ∙ ap contracted c.as_slice-3.ensures.value,
-    c.in_ok-is_serial.ensures ∙ ap (list_any serial) c.as_slice-4.ensures.value,
-    numbers ∙ c.in_ok-count.ensures ∙ ap scratch c.as_slice-5.ensures.value)
+    let numbers : length c.in_ok-numbers.numbers.items ≡ c.in_ok-count.count = search rules in (
+      ap may_share_block same ∙ shares_block c.args.ops.now c.args.block.now c.requires.formed c.requires.block,
+      omega arith,
+      c.in_ok-read_views.ensures ∙ ap reads c.as_slice.ensures.value,
+      c.in_ok-written_views.ensures ∙ ap writes c.as_slice-2.ensures.value,
+      c.in_ok-contracted_bases.ensures ∙ ap contracted c.as_slice-3.ensures.value,
+      c.in_ok-is_serial.ensures ∙ ap (list_any serial) c.as_slice-4.ensures.value,
+      numbers ∙ c.in_ok-count.ensures ∙ ap scratch c.as_slice-5.ensures.value,
+    )
