@@ -1,11 +1,12 @@
 //! When views meet: whether two views overlap, are identical, or one repeats an element.
 //!
 //! The promise: `identical`, `overlaps` and `repeats` are the words of docs/PLANS.md, "Views", on the lists of elements, exactly.
-//! `identical` compares the parts of the views and takes no memory. `overlaps` tells most views apart by their bases, ranges, steps and
-//! columns; where those don't decide, the elements of one view are marked in a row of bits and the other is walked once. `repeats` asks
-//! the strides first: a dimension that stays at one element repeats it, and nothing repeats where no steps along the dimensions, fewer
-//! than each one's length, up or down, lead back to where they began; what is left is walked once, over such marks. Both
-//! answer want of memory where the row can't be had. A view with a stride of 1 is marked by runs, words at a time.
+//! `identical` compares the parts of the views and takes no memory. `overlaps` tells most views apart by their bases, ranges, steps,
+//! columns and where steps along both lead; where those don't decide, the elements of one view are marked in a row of bits and the
+//! other is walked once. `repeats` asks the strides first: a dimension that stays at one element repeats it, and nothing repeats where
+//! no steps along the dimensions, fewer than each one's length, up or down, lead back to where they began; what is left is walked
+//! once, over such marks. Both answer want of memory where the row can't be had. A view with a stride of 1 is marked by runs, words at
+//! a time.
 //!
 //! `Classes` numbers the classes of identical views by first sight and knows of each two of them whether they overlap; only making it
 //! takes memory. Each pair is decided once, and a view is marked only where a pair of which it is one is decided by marks.

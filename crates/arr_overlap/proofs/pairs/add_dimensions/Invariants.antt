@@ -1,4 +1,4 @@
-use Rattle.std.proofs.Common.{ℕ, ◌+◌, ◌≤◌, drop}
+use Rattle.std.proofs.Common.{ℕ, ◌+◌, drop}
 use Rattle.arr_overlap.specs.Legs.{with_dimensions, AreLegs, LeadTo}
 use Rattle.arr_overlap.proofs.pairs.add_dimensions.Given as goal
 

@@ -1,4 +1,4 @@
-use Rattle.std.proofs.Common.{◌≡◌, ℕ, ◌-◌, ◌≤◌, ◌<◌, List, [], ap, sym, ◌∙◌, subst, refl, arith}
+use Rattle.std.proofs.Common.{ℕ, ◌-◌, ◌≤◌, [], sym, subst, refl, arith}
 use Rattle.arr_view.specs.Views.{elements}
 use Rattle.arr_overlap.specs.Legs.{with_dimensions, AreLegs, LeadTo}
 use Rattle.arr_overlap.proofs.Shared.{more_dimensions, never_shared, shared_leads}
