@@ -557,3 +557,33 @@ LIMITS = [
     (FULL + "a1[:] = a1 + a2\ndel a3\nc = range(1048576)\nprint a1[5:7]\n", "i64 2\n10 12\n"),
     (FULL + "a1[:] = a1[0:1] + 1\n", "refused 17:17 TooMuchLive\n"),
 ]
+
+# Words behind `run`, scripts, and all that is written: plans and arrays.
+PLANS = [
+    (['--plan', '--fuse=linear'], 'a = range(4)\nflush\nb = a + 1\nc = b * 2\ndel b\nprint c\n', '# flush 1 recorded 1 rewritten 1 blocks 1 cost 32\n# op 1 RANGE +b0:i64@0[4:1]\n# block 1 cost 32 ops 1\n# flush 2 recorded 6 rewritten 6 blocks 1 cost 32\n# op 1 ADD +b1:i64@0[4:1] b0:i64@0[4:1] 1\n# op 2 MULTIPLY +b2:i64@0[4:1] b1:i64@0[4:1] 2\n# op 3 FREE b1\n# op 4 SYNC b2:i64@0[4:1] slot=1\n# op 5 FREE b0\n# op 6 FREE b2\n# block 1 cost 32 ops 1 2 3 4 5 6\ni64 4\n2 4 6 8\n'),
+    (['--plan', '--fuse=linear'], 'a = full([1], 7, i64)\nb = sum(a, 0)\nc = b + 1\nprint c\n', '# flush 1 recorded 7 rewritten 7 blocks 2 cost 24\n# op 1 IDENTITY +b0:i64@0[1:0] 7\n# op 2 ADD_REDUCE +b1:i64@0[1:0] b0:i64@0[1:0] axis=0\n# op 3 ADD +b2:i64@0[1:0] b1:i64@0[1:0] 1\n# op 4 SYNC b2:i64@0[1:0] slot=1\n# op 5 FREE b0\n# op 6 FREE b1\n# op 7 FREE b2\n# block 1 cost 16 ops 1 2\n# block 2 cost 8 ops 3 4 5 6 7\ni64 1\n8\n'),
+    (['--plan', '--fuse=greedy'], 'a = full([1], 7, i64)\nb = sum(a, 0)\nc = b + 1\nprint c\n', '# flush 1 recorded 7 rewritten 7 blocks 2 cost 16\n# op 1 IDENTITY +b0:i64@0[1:0] 7\n# op 2 ADD_REDUCE +b1:i64@0[1:0] b0:i64@0[1:0] axis=0\n# op 3 ADD +b2:i64@0[1:0] b1:i64@0[1:0] 1\n# op 4 SYNC b2:i64@0[1:0] slot=1\n# op 5 FREE b0\n# op 6 FREE b1\n# op 7 FREE b2\n# block 1 cost 8 ops 1 2 5\n# block 2 cost 8 ops 3 4 6 7\ni64 1\n8\n'),
+    (['--plan', '--fuse=greedy'], 'a = range(8)\na[0:8:2] = a[1:8:2] + 1\nprint a[1:8:2]\n', '# flush 1 recorded 4 rewritten 4 blocks 2 cost 96\n# op 1 RANGE +b0:i64@0[8:1]\n# op 2 ADD b0:i64@0[4:2] b0:i64@1[4:2] 1\n# op 3 SYNC b0:i64@1[4:2] slot=1\n# op 4 FREE b0\n# block 1 cost 64 ops 1\n# block 2 cost 32 ops 2 3 4\ni64 4\n1 3 5 7\n'),
+    (['--plan', '--fuse=linear'], 'a = range(3)\nb = a + 1 + 2\nprint b\n', '# flush 1 recorded 7 rewritten 5 blocks 1 cost 0\n# op 1 RANGE +b0:i64@0[3:1]\n# op 2 ADD +b2:i64@0[3:1] b0:i64@0[3:1] 3\n# op 3 SYNC b2:i64@0[3:1] slot=1\n# op 4 FREE b0\n# op 5 FREE b2\n# block 1 cost 0 ops 1 2 3 4 5\ni64 3\n3 4 5\n'),
+    (['--plan', '--fuse=linear'], 'a = range(3)\nb = i64(a)\na[0:1] = 9\nc = b + 1\nprint c\n', '# flush 1 recorded 8 rewritten 8 blocks 3 cost 80\n# op 1 RANGE +b0:i64@0[3:1]\n# op 2 IDENTITY +b1:i64@0[3:1] b0:i64@0[3:1]\n# op 3 IDENTITY b0:i64@0[1:0] 9\n# op 4 ADD +b2:i64@0[3:1] b1:i64@0[3:1] 1\n# op 5 SYNC b2:i64@0[3:1] slot=1\n# op 6 FREE b0\n# op 7 FREE b1\n# op 8 FREE b2\n# block 1 cost 48 ops 1 2\n# block 2 cost 8 ops 3\n# block 3 cost 24 ops 4 5 6 7 8\ni64 3\n1 2 3\n'),
+    (['--plan', '--fuse=linear'], 'x = range(4)\ny = x * 0 + 0\nprint y\n', '# flush 1 recorded 7 rewritten 3 blocks 1 cost 0\n# op 1 IDENTITY +b2:i64@0[4:1] 0\n# op 2 SYNC b2:i64@0[4:1] slot=1\n# op 3 FREE b2\n# block 1 cost 0 ops 1 2 3\ni64 4\n0 0 0 0\n'),
+    (['--plan', '--fuse=greedy'], 'a = range(4)\nflush\nb = gather(a, range(2) + 2)\nprint b\nscatter(a, range(2), b)\nprint a\n', '# flush 1 recorded 1 rewritten 1 blocks 1 cost 32\n# op 1 RANGE +b0:i64@0[4:1]\n# block 1 cost 32 ops 1\n# flush 2 recorded 2 rewritten 2 blocks 1 cost 32\n# op 1 RANGE +b1:i64@0[2:1]\n# op 2 ADD +b2:i64@0[2:1] b1:i64@0[2:1] 2\n# block 1 cost 32 ops 1 2\n# flush 3 recorded 4 rewritten 4 blocks 1 cost 32\n# op 1 FREE b1\n# op 2 FREE b2\n# op 3 SYNC b3:i64@0[2:1] slot=1\n# op 4 RANGE +b4:i64@0[2:1]\n# block 1 cost 32 ops 1 2 3 4\ni64 2\n2 3\n# flush 4 recorded 4 rewritten 4 blocks 1 cost 32\n# op 1 FREE b4\n# op 2 SYNC b0:i64@0[4:1] slot=1\n# op 3 FREE b0\n# op 4 FREE b3\n# block 1 cost 32 ops 1 2 3 4\ni64 4\n2 3 2 3\n'),
+]
+
+# Words that name no command.
+UNKNOWN = [
+    [],
+    ['Run'],
+    ['run', 'run'],
+    ['run', '--cert'],
+    ['run', '--plan', '--cert'],
+    ['run', '--fuse=best'],
+    ['run', '--fuse=greedy', '--plan'],
+    ['run', '--plan', '--plan'],
+    ['run', '--fuse=linear', '--fuse=linear'],
+    ['run', '--fuse=linear', '--budget=1'],
+    ['run', '--budget=0'],
+    ['check'],
+    ['check', 'x'],
+    ['demo', '1'],
+]

@@ -1,7 +1,8 @@
 #!/usr/bin/env python3
 """Runs the examples, the cases of cases.py and what the documents show, and compares what is written.
 
-examples/NAME.bh is run, and must print examples/NAME.out.
+examples/NAME.bh is run, and must print examples/NAME.out. The words are `run`, or those of its first line where this is a comment
+`# ./bohrium WORDS < examples/NAME.bh`.
 
 In README.md and docs/LANGUAGE.md are run:
 - a fenced block `bohrium`, a script; the next fenced block, `output`, is all that it prints. The status must be 1 where that is a
@@ -21,6 +22,7 @@ import cases
 TOP = os.path.dirname(os.path.dirname(os.path.abspath(__file__)))
 PROGRAM = os.path.join(TOP, "crates", "bohrium", "out", "bohrium")
 PAGES = ["README.md", os.path.join("docs", "LANGUAGE.md")]
+USAGE = "usage: bohrium run [--plan|--cert] [--fuse=linear|greedy|best] [--budget=N] | bohrium check FILE | bohrium demo N\n"
 # The refusals that the grammar gives.
 OF_GRAMMAR = {"TooLong", "BadByte", "NumberTooWide", "NameTooLong", "StatementTooLong", "TooDeep", "Unexpected"}
 
@@ -38,15 +40,15 @@ def judge(where, wanted, found):
     print(f"{where}: differs\n--- wanted\n{wanted}--- found\n{found}---")
 
 
-def run(script):
+def run(script, words=("run",)):
     text = script if isinstance(script, bytes) else script.encode()
-    done = subprocess.run([PROGRAM, "run"], input=text, capture_output=True, timeout=120)
+    done = subprocess.run([PROGRAM, *words], input=text, capture_output=True, timeout=120)
     return done.returncode, done.stdout.decode(errors="replace")
 
 
-def judge_script(where, script, wanted):
+def judge_script(where, script, wanted, words=("run",)):
     status = 1 if wanted.startswith("refused ") else 0
-    found_status, found = run(script)
+    found_status, found = run(script, words)
     judge(where, f"{wanted}status {status}\n", f"{found}status {found_status}\n")
 
 
@@ -111,8 +113,10 @@ def judge_examples():
     folder = os.path.join(TOP, "examples")
     for name in sorted(os.listdir(folder)):
         if name.endswith(".bh"):
-            with open(os.path.join(folder, name)) as script, open(os.path.join(folder, name[:-3] + ".out")) as wanted:
-                judge_script(f"examples/{name}", script.read(), wanted.read())
+            with open(os.path.join(folder, name)) as file, open(os.path.join(folder, name[:-3] + ".out")) as wanted:
+                script = file.read()
+                words = re.match(r"# \./bohrium (.*) < ", script)
+                judge_script(f"examples/{name}", script, wanted.read(), words.group(1).split() if words else ["run"])
 
 
 def judge_sentence(text):
@@ -152,6 +156,10 @@ def judge_numbers():
 def judge_cases():
     for script, wanted in cases.ARRAYS + cases.REFUSALS + cases.SLICES + cases.TEXTS + cases.LIMITS:
         judge_script(f"cases: {script[:200]!r}", script, wanted)
+    for words, script, wanted in cases.PLANS:
+        judge_script(f"cases: {words} {script!r}", script, wanted, ["run", *words])
+    for words in cases.UNKNOWN:
+        judge(f"cases: {words}", (2, USAGE), run("", words))
     for text in cases.SENTENCES:
         judge_sentence(text)
     judge_numbers()

@@ -29,6 +29,20 @@ fn scripts_print_their_arrays(rt: HostRuntime) -> Result<(), Fail> {
     Ok(())
 }
 
+#[test]
+fn plans_are_listed(rt: HostRuntime) -> Result<(), Fail> {
+    let alloc = rt.alloc();
+    let script = b"a = range(4)\nflush\nprint a\n";
+    let text =
+        b"# flush 1 recorded 1 rewritten 1 blocks 1 cost 32\n# op 1 RANGE +b0:i64@0[4:1]\n# block 1 cost 32 ops 1\n# flush 2 recorded 2 rewritten 2 blocks 1 cost 32\n# op 1 SYNC b0:i64@0[4:1] slot=1\n# op 2 FREE b0\n# block 1 cost 32 ops 1 2\ni64 4\n0 1 2 3\n";
+    for planner in ["--fuse=linear", "--fuse=greedy"] {
+        let ran = run(alloc, &["run", "--plan", planner], script, 0, 4096, 0)?;
+        assert_eq!(rt; ran.status, 0);
+        assert_eq!(rt; ran.written.as_slice(), text.as_slice());
+    }
+    Ok(())
+}
+
 /// Whether words that name no command get the usage line, and status 4 where it can't be written.
 fn are_unknown(rt: &impl Abort, alloc: Global, words: &[&str]) -> Result<(), NoMemory> {
     let ran = run(alloc, words, SUM.as_bytes(), 1, 4096, 0)?;
@@ -47,6 +61,7 @@ fn other_words_get_the_usage_line(rt: HostRuntime) -> Result<(), Fail> {
     are_unknown(&rt, alloc, &["Run"])?;
     are_unknown(&rt, alloc, &["run", "run"])?;
     are_unknown(&rt, alloc, &["run", "--plan", "--cert"])?;
+    are_unknown(&rt, alloc, &["run", "--fuse=linear", "--plan"])?;
     are_unknown(&rt, alloc, &["check"])?;
     are_unknown(&rt, alloc, &["demo", "x"])?;
     are_unknown(&rt, alloc, &[""])?;

@@ -9,3 +9,6 @@ pub mod Steps
 pub mod Performing
 pub mod Alone
 pub mod Ready
+pub mod Picked
+pub mod Shown
+pub mod Blocks

@@ -7,9 +7,9 @@ use Rattle.std.specs.Prelude.{◌==◌, is_some}
 use Rattle.std.specs.List.{AllByRecursion, list_all, list_any, range_with_len}
 use Rattle.std.specs.Option.{option_to_list}
 use Rattle.arr_num.specs.declared.elem.Elem.{Elem}
-use Rattle.arr_num.specs.declared.elem.Elem.TheVariants.{U8, I32, I64, U64}
+use Rattle.arr_num.specs.declared.elem.Elem.TheVariants.{U64}
 use Rattle.arr_num.specs.declared.code.Code.{Code}
-use Rattle.arr_num.specs.declared.code.Code.TheVariants.{Power, Range, Identity, Equal, NotEqual, Less, LessEqual, Greater, GreaterEqual}
+use Rattle.arr_num.specs.declared.code.Code.TheVariants.{Power, Range, Identity}
 use Rattle.arr_num.specs.Kinds.{Kind, Binary, Unary, Counting, Reduction, Scan, Ending, Printing, kind, binds_two, binds_one, counts, is_binary}
 use Rattle.arr_num.specs.Numbers.{in_type, may_stand_right}
 use Rattle.arr_num.specs.Types.{types_match}

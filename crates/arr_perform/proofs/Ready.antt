@@ -52,7 +52,7 @@ ascend ops h = same_from_test _ _ (both_left _ _ (both_right (list_all well_form
 computed_same : (f g : Memory) (op : Op) → f.bases ≡ g.bases → computed f op ≡ computed g op
 computed_same f g op e = computed_alike f.bases f.slots g.slots op ∙ ap (λ bases. computed (with_slots bases g.slots) op) e
 
-step_bases : (f g : Memory) (op : Op) → f.bases ≡ g.bases → (step f op).bases ≡ (step g op).bases
+pub step_bases : (f g : Memory) (op : Op) → f.bases ≡ g.bases → (step f op).bases ≡ (step g op).bases
 step_bases f g op e = bases_alike f.bases f.slots g.slots op ∙ ap (λ bases. (step (with_slots bases g.slots) op).bases) e
 
 pub same_bases : (ops : List Op) (f g : Memory) → f.bases ≡ g.bases → (eager f ops).bases ≡ (eager g ops).bases
@@ -70,17 +70,17 @@ slot_alike (Some a) new other s rest old before e none f =
       | false ↦ λ d. let apart : s ≢ a = (λ h. eqb-false a s d (sym h)) in f (ap₂ (λ p q. p || q) (ne_eqb s a apart) none)
     ] refl
 
-slots_alike : (ops : List Op) (f g : Memory) → f.bases ≡ g.bases → ((s : ℕ) → has (slot_numbers ops) s ≡ false → f.slots s ≡ g.slots s) → (s : ℕ) → (eager f ops).slots s ≡ (eager g ops).slots s
+pub slots_alike : (ops : List Op) (f g : Memory) → f.bases ≡ g.bases → ((s : ℕ) → has (slot_numbers ops) s ≡ false → f.slots s ≡ g.slots s) → (s : ℕ) → (eager f ops).slots s ≡ (eager g ops).slots s
 slots_alike [] f g e h s = h s refl
 slots_alike (op ∷ ops) f g e h s =
     slots_alike ops (step f op) (step g op) (step_bases f g op e)
     (λ k none. slot_alike op.slot _ _ k (slot_numbers ops) (f.slots k) (g.slots k) (ap (λ xs. record { elem = op.from; lengths = lengths_of op.first; numbers = xs }) (computed_same f g op e)) none (h k)) s
 
-neither : (p q : Bool) → (p || q) ≡ false → (p ≡ false) × (q ≡ false)
+pub neither : (p q : Bool) → (p || q) ≡ false → (p ≡ false) × (q ≡ false)
 neither true q h = absurd (false≢true (sym h))
 neither false q h = (refl, h)
 
-blank_none : (ops : List Op) (s : ℕ) → has (slot_numbers ops) s ≡ false → blank_slots ops s ≡ None
+pub blank_none : (ops : List Op) (s : ℕ) → has (slot_numbers ops) s ≡ false → blank_slots ops s ≡ None
 blank_none [] s h = refl
 blank_none (op ∷ ops) s h = none_more op.slot (blank_slot op) s (slot_numbers ops) (blank_slots ops s) (blank_none ops s) h
   where

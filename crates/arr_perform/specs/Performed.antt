@@ -1,6 +1,6 @@
 -- What it takes to run an operation on a store and slots.
-use Rattle.std.specs.Prelude.{ℕ, ℤ, nat_lt, ◌==◌, List, [], ◌∷◌, Bool, false, true, ◌&&◌, length, Option, Some, None}
-use Rattle.std.specs.List.{list_all}
+use Rattle.std.specs.Prelude.{ℕ, ℤ, nat_lt, ◌-◌, ◌==◌, List, [], ◌∷◌, ◌++◌, Bool, false, true, ◌&&◌, length, Option, Some, None}
+use Rattle.std.specs.List.{list_all, slice_get}
 use Rattle.std.specs.Option.{option_to_list}
 use Rattle.arr_view.specs.Views.{positions, same_lists}
 use Rattle.arr_ops.specs.Formed.{same_elem}
@@ -28,6 +28,11 @@ can_run m op = op_fits (without_slots m) (op ∷ []) op && list_all (λ s. shows
 abbrev pub can_run_all : Memory → List Op → Bool
 can_run_all m [] = true
 can_run_all m (op ∷ ops) = can_run m op && can_run_all (step m op) ops
+
+-- the operations with these numbers, counted from 1
+abbrev pub ops_at : List Op → List ℕ → List Op
+ops_at list [] = []
+ops_at list (i ∷ is) = option_to_list (slice_get list (i - 1)) ++ ops_at list is
 
 -- ---- parts
 

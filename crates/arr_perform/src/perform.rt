@@ -1,5 +1,5 @@
 //! One operation after another, each read whole before it writes.
-ghost use Rattle.std.specs.Prelude.{◌≡◌, ◌+◌, ◌*◌, ◌≤◌, ◌<◌, ◌^◌, [], ◌∷◌, IsTrue, IsSome, IfOk, OnOk, Some, None, true, false, nat_le, length, map, pos};
+ghost use Rattle.std.specs.Prelude.{◌≡◌, ◌+◌, ◌*◌, ◌≤◌, ◌<◌, ◌^◌, [], ◌∷◌, IsTrue, IsSome, IfOk, OnOk, Some, None, true, false, nat_le, nat_lt, ◌&&◌, length, map, pos};
 ghost use Rattle.std.specs.List.{list_all, range_with_len};
 ghost use Rattle.arr_view.specs.Views.{elements, most_elements, positions};
 ghost use Rattle.arr_num.specs.Kinds.{Ending, Printing, is_element_wise, is_fold, kind};
@@ -8,17 +8,18 @@ ghost use Rattle.arr_ops.specs.Ops.{keeps_bases, view_of};
 ghost use Rattle.arr_ops.specs.Formed.{is_array, is_formed, well_formed};
 ghost use Rattle.arr_ops.specs.Memory.{computed, eager, first_numbers, operand, put, results, step, without_slots};
 ghost use Rattle.arr_ops.specs.Fits.{fits, op_fits};
+ghost use Rattle.arr_ops.specs.Plans.{ascends, eager_blocks, is_legal, numbered};
 ghost use Rattle.arr_store.specs.Cells.{assigned};
 ghost use Rattle.arr_store.specs.Slots.{blank_slots, slots_of};
 ghost use Rattle.arr_store.specs.Stored.{cells};
-ghost use Rattle.arr_perform.specs.Performed.{can_run, can_run_all, lie_inside, memory};
+ghost use Rattle.arr_perform.specs.Performed.{can_run, can_run_all, lie_inside, memory, ops_at};
 
 use crate::computing::applied;
 use crate::folding::{folded, scanned};
 use crate::lengths::product;
 use crate::moves::{fill_slot, read_view, write_view};
 use arr_num::{Code, Elem};
-use arr_ops::{Op, Operand, array_view};
+use arr_ops::{Op, Operand, Plan, array_view};
 use arr_store::{Slots, Store};
 use arr_view::View;
 use std::alloc::{AllocError as NoMemory, Global};
@@ -345,19 +346,60 @@ pub(crate) fn perform(
     }
 }
 
-/// Runs operations one after another, each of which finds what it needs.
-fn perform_each(
+/// Runs the operations of a list that have these numbers, counted from 1, one after another. Each of them finds what it needs.
+fn perform_block(
     alloc: Global,
     ops: &[Op],
+    block: &[u32],
     store: &mut Store,
     slots: &mut Slots,
 ) -> Result<(), NoMemory>
     requires well { list_all well_formed ops.now ≡ true }
-    requires runs { can_run_all (memory store.old slots.old) ops.now ≡ true }
+    requires within { list_all (λ i. nat_lt 0 i && nat_le i (length ops.now)) block.now ≡ true }
+    requires runs { can_run_all (memory store.old slots.old) (ops_at ops.now block.now) ≡ true }
+    requires room { store.old.loads + 16777216 * length (ops_at ops.now block.now) ≤ 2 ^ 62 }
+    requires room_stores { store.old.stores + 8388608 * length (ops_at ops.now block.now) ≤ 2 ^ 62 }
+    requires room_made { store.old.made + length (ops_at ops.now block.now) ≤ 2 ^ 62 }
+    ensures memory { OnOk result (memory store.new slots.new ≡ eager (memory store.old slots.old) (ops_at ops.now block.now)) }
+    ensures loads { store.old.loads ≤ store.new.loads }
+    ensures few_loads { store.new.loads ≤ store.old.loads + 16777216 * length (ops_at ops.now block.now) }
+    ensures stores { store.old.stores ≤ store.new.stores }
+    ensures few_stores { store.new.stores ≤ store.old.stores + 8388608 * length (ops_at ops.now block.now) }
+    ensures made { store.old.made ≤ store.new.made }
+    ensures few_made { store.new.made ≤ store.old.made + length (ops_at ops.now block.now) }
+{
+    for number in block {
+        perform(alloc, &ops[*number as usize - 1], store, slots)?;
+    }
+    Ok(())
+}
+
+/// The blocks of a plan.
+fn blocks_of(plan: &Plan) -> &[Vec<u32>]
+    ensures value { map (λ b. b.items) result.now ≡ plan.now }
+    ensures ascending { list_all (λ b. ascends b.items) result.now ≡ true }
+{
+    &plan.blocks
+}
+
+/// Runs the blocks of a legal plan of a list one after another.
+fn perform_blocks(
+    alloc: Global,
+    ops: &[Op],
+    blocks: &[Vec<u32>],
+    store: &mut Store,
+    slots: &mut Slots,
+) -> Result<(), NoMemory>
+    requires formed { is_formed ops.now ≡ true }
+    requires fitting { fits (without_slots (memory store.old slots.old)) ops.now ≡ true }
+    requires legal { is_legal ops.now (map (λ b. b.items) blocks.now) ≡ true }
+    requires ascending { list_all (λ b. ascends b.items) blocks.now ≡ true }
+    requires blank { slots_of slots.old ≡ blank_slots ops.now }
     requires room { store.old.loads + 16777216 * length ops.now ≤ 2 ^ 62 }
     requires room_stores { store.old.stores + 8388608 * length ops.now ≤ 2 ^ 62 }
     requires room_made { store.old.made + length ops.now ≤ 2 ^ 62 }
-    ensures memory { OnOk result (memory store.new slots.new ≡ eager (memory store.old slots.old) ops.now) }
+    ensures memory { OnOk result (memory store.new slots.new
+        ≡ eager_blocks (memory store.old slots.old) (numbered ops.now) (map (λ b. b.items) blocks.now)) }
     ensures loads { store.old.loads ≤ store.new.loads }
     ensures few_loads { store.new.loads ≤ store.old.loads + 16777216 * length ops.now }
     ensures stores { store.old.stores ≤ store.new.stores }
@@ -365,25 +407,28 @@ fn perform_each(
     ensures made { store.old.made ≤ store.new.made }
     ensures few_made { store.new.made ≤ store.old.made + length ops.now }
 {
-    for op in ops {
-        perform(alloc, op, store, slots)?;
+    for block in blocks {
+        perform_block(alloc, ops, block, store, slots)?;
     }
     Ok(())
 }
 
-/// Runs the operations of a list one after another: each reads its inputs whole, and then writes (docs/PLANS.md, "The store").
+/// Runs a list by a legal plan: its blocks in their order, and the operations of each one after another in the order of the list. Each
+/// operation reads its inputs whole, and then writes (docs/PLANS.md, "Legal plans" and "The store").
 ///
 /// It is given a formed list of at most 256 operations, a store that has what they need, and slots made for the list. Afterwards the bases
 /// and the slots are those that the list leaves, and each counter has risen by at most 2^32. After [`NoMemory`], which comes where memory
 /// is out, nothing is claimed of the store's bases and of the slots.
-pub fn perform_all(
+pub fn perform_plan(
     alloc: Global,
     ops: &[Op],
+    plan: &Plan,
     store: &mut Store,
     slots: &mut Slots,
 ) -> Result<(), NoMemory>
     requires formed { is_formed ops.now ≡ true }
     requires fitting { fits (without_slots (memory store.old slots.old)) ops.now ≡ true }
+    requires legal { is_legal ops.now plan.now ≡ true }
     requires blank { slots_of slots.old ≡ blank_slots ops.now }
     requires few { length ops.now ≤ 256 }
     requires room_loads { store.old.loads < 2 ^ 61 }
@@ -398,5 +443,5 @@ pub fn perform_all(
     ensures kept_stores { store.old.stores ≤ store.new.stores }
     ensures kept_made { store.old.made ≤ store.new.made }
 {
-    perform_each(alloc, ops, store, slots)
+    perform_blocks(alloc, ops, blocks_of(plan), store, slots)
 }

@@ -3,46 +3,59 @@ use Rattle.std.proofs.Common.{◌≡◌, ℕ, List, [], ◌∷◌, ◌++◌, Opt
 use Rattle.std.specs.List.{flat_map}
 use Rattle.std.specs.Io.KnownBytes.{Appends}
 use Rattle.arr_record.specs.declared.part.Part.{Part}
+use Rattle.arr_record.specs.declared.part.Part.TheVariants.{Flush, Gather, Scatter}
 use Rattle.arr_ops.specs.Memory.{Slot}
 use Rattle.arr_elab.specs.Steps.{eager_arrays}
+use Rattle.arr_listing.specs.Texts.{array_text}
 use Rattle.arr_store.specs.Stored.{Stored}
+use Rattle.arr_run.specs.declared.choice.Choice.{Choice}
+use Rattle.arr_run.specs.declared.choice.Listing.TheVariants.{Quiet}
 use Rattle.arr_run.specs.declared.words.Command.TheVariants.{Run}
 use Rattle.arr_run.specs.Answers.{Answer, Ends, Given, Leaves, answer_status, answer_text, done, refused}
-use Rattle.arr_run.specs.Laws.{FaultsAreCounted, PrintsArrays, PrintsEagerly, RefusalKeepsStore, RunIsKnown}
-use Rattle.arr_run.specs.Pieces.{Pieces, Segment, number_behind, plain, segment_text, segments_from, slots_in}
-use Rattle.arr_run.specs.Texts.{array_text}
+use Rattle.arr_run.specs.Laws.{FaultsAreCounted, PrintsEagerly, PrintsRun, RefusalKeepsStore, RunIsKnown}
+use Rattle.arr_run.specs.Pieces.{Pieces, PlannedPart, Segment, head_of, number_behind, plan_lines, segment_text, segments_from, slots_in}
 
--- nothing stands before arrays
-no_heads : (parts : List Part) (pieces : Pieces plain parts) (number : ℕ) (arrays : List Slot)
-    → flat_map segment_text (segments_from plain number parts pieces arrays) ≡ flat_map (λ (s : Segment). s.arrays) (segments_from plain number parts pieces arrays)
-no_heads [] pieces number arrays = refl
-no_heads (x ∷ xs) pieces number arrays = ap (λ s. flat_map array_text (take (slots_in x) arrays) ++ s) (no_heads xs pieces.1 (number_behind x number) (drop (slots_in x) arrays))
+-- where nothing is listed, nothing stands before arrays
+no_head : (choice : Choice) (number : ℕ) (x : Part) (p : PlannedPart choice x) → choice.listing ≡ Quiet → head_of choice number x p ≡ []
+no_head choice number (Flush list) p e = ap (λ l. plan_lines l number list p.plan) e
+no_head choice number (Gather g) p e = refl
+no_head choice number (Scatter g) p e = refl
 
-printed_by : (given : Given) (old new : Option (List ℕ)) (a : Answer given (Some Run)) → answer_status a ≡ 0 → Ends a → Appends old new (answer_text a) → PrintsArrays given.script old new
-printed_by given old new (done r) e ends w = record { steps = r.steps; accepted = r.accepted; wrote = subst (Appends old new) (no_heads r.parts r.pieces 1 (eager_arrays r.steps) ∙ ends.arrays) w }
-printed_by given old new (refused why) e ends w = absurd (omega arith)
+no_heads : (choice : Choice) (parts : List Part) (pieces : Pieces choice parts) (number : ℕ) (arrays : List Slot) → choice.listing ≡ Quiet
+    → flat_map segment_text (segments_from choice number parts pieces arrays) ≡ flat_map (λ (s : Segment). s.arrays) (segments_from choice number parts pieces arrays)
+no_heads choice [] pieces number arrays e = refl
+no_heads choice (x ∷ xs) pieces number arrays e =
+    let own = flat_map array_text (take (slots_in x) arrays) in
+    let rest = segments_from choice (number_behind x number) xs pieces.1 (drop (slots_in x) arrays) in
+    ap (λ h. (h ++ own) ++ flat_map segment_text rest) (no_head choice number x (pieces.0).planned e)
+    ∙ ap (λ s. own ++ s) (no_heads choice xs pieces.1 (number_behind x number) (drop (slots_in x) arrays) e)
 
--- status 0: the script is accepted, and its eager arrays are all that was written
+printed_by : (choice : Choice) (given : Given) (old new : Option (List ℕ)) (a : Answer given (Some (Run choice))) → answer_status a ≡ 0 → Ends a → Appends old new (answer_text a) → PrintsRun choice given.script old new
+printed_by choice given old new (done r) e ends w =
+    record { run = r; whole = ends; wrote = w; quiet = λ q. no_heads choice r.parts r.pieces 1 (eager_arrays r.steps) q ∙ ends.arrays }
+printed_by choice given old new (refused why) e ends w = absurd (omega arith)
+
+-- status 0: the text of a whole run was written, and nothing else
 pub prints_eagerly : PrintsEagerly
-prints_eagerly script proof old new store after s =
+prints_eagerly choice script proof old new store after s =
     let d = s.2.whole (omega arith) in
-    subst (λ t. PrintsArrays t old new) s.1.0 (printed_by s.0 old new d.answer d.status_is d.ends d.wrote)
+    subst (λ t. PrintsRun choice t old new) s.1.0 (printed_by choice s.0 old new d.answer d.status_is d.ends d.wrote)
 
-kept_by : (given : Given) (store after : Stored) (n : ℕ) (a : Answer given (Some Run)) → answer_status a ≡ 1 → Leaves a n store after → after ≡ store
-kept_by given store after n (done r) e l = absurd (omega arith)
-kept_by given store after n (refused why) e l = l
+kept_by : (choice : Choice) (given : Given) (store after : Stored) (n : ℕ) (a : Answer given (Some (Run choice))) → answer_status a ≡ 1 → Leaves a n store after → after ≡ store
+kept_by choice given store after n (done r) e l = absurd (omega arith)
+kept_by choice given store after n (refused why) e l = l
 
 -- status 1: the store is as it was
 pub refusal_keeps : RefusalKeepsStore
-refusal_keeps script proof old new store after s = let d = s.2.whole (omega arith) in kept_by s.0 store after (length (answer_text d.answer)) d.answer d.status_is d.leaves
+refusal_keeps choice script proof old new store after s = let d = s.2.whole (omega arith) in kept_by choice s.0 store after (length (answer_text d.answer)) d.answer d.status_is d.leaves
 
-never_two : (given : Given) (a : Answer given (Some Run)) → answer_status a ≡ 2 → ⊥
-never_two given (done r) e = absurd (omega arith)
-never_two given (refused why) e = absurd (omega arith)
+never_two : (choice : Choice) (given : Given) (a : Answer given (Some (Run choice))) → answer_status a ≡ 2 → ⊥
+never_two choice given (done r) e = absurd (omega arith)
+never_two choice given (refused why) e = absurd (omega arith)
 
 -- the words of `run` never answer 2
 pub never_usage : RunIsKnown
-never_usage script proof old new store after s = let d = s.2.whole (omega arith) in never_two s.0 d.answer d.status_is
+never_usage choice script proof old new store after s = let d = s.2.whole (omega arith) in never_two choice s.0 d.answer d.status_is
 
 -- a count that stands still has not risen
 pub faults_counted : FaultsAreCounted

@@ -21,7 +21,7 @@ small_width I64 = omega arith
 small_width U64 = omega arith
 
 -- a view weighs at most 8 MiB
-small_weight : (t : Elem) (v : Strided) → is_view v ≡ true → weight_of t v ≤ 8388608
+pub small_weight : (t : Elem) (v : Strided) → is_view v ≡ true → weight_of t v ≤ 8388608
 small_weight t v h =
     let few : positions v.lengths ≤ 1048576 = (lawful v h).size in
     let wide : positions v.lengths * width t ≤ positions v.lengths * 8 = mul-le-mul_left (positions v.lengths) (small_width t) in

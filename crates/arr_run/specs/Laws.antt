@@ -2,39 +2,42 @@
 use Rattle.std.specs.Prelude.{◌≡◌, ◌≢◌, ℕ, suc, ◌+◌, ◌-◌, ◌^◌, ◌<◌, ◌≤◌, List, ◌∷◌, ◌++◌, length, Option, Some}
 use Rattle.std.specs.List.{flat_map}
 use Rattle.std.specs.Io.KnownBytes.{Appends}
-use Rattle.arr_elab.specs.declared.step.Step.{Step}
 use Rattle.arr_elab.specs.Steps.{eager_arrays}
 use Rattle.arr_store.specs.Stored.{Stored}
 use Rattle.arr_run.specs.declared.words.Command.TheVariants.{Run}
-use Rattle.arr_run.specs.Answers.{Blames, IsAccepted, Serves}
+use Rattle.arr_run.specs.declared.choice.Choice.{Choice}
+use Rattle.arr_run.specs.declared.choice.Listing.TheVariants.{Quiet}
+use Rattle.arr_run.specs.Answers.{Blames, IsRun, IsWhole, Serves, run_text}
 use Rattle.arr_run.specs.Pieces.{Segment, ran, segment_text}
-use Rattle.arr_run.specs.Texts.{array_text}
+use Rattle.arr_listing.specs.Texts.{array_text}
 
 -- ---- what a status says
 
--- the script is accepted, and what was written are its eager arrays
-pub record PrintsArrays (script : List ℕ) (old new : Option (List ℕ)) : Type 0 where
-  pub steps : List Step
-  pub accepted : IsAccepted script steps
-  pub wrote : Appends old new (flat_map array_text (eager_arrays steps))
+-- The text of a whole run was written: for each part in turn its head, which for a flush are its plan lines or nothing, and its share of the
+-- eager arrays. Where plans are not listed these arrays are all of it.
+pub record PrintsRun (choice : Choice) (script : List ℕ) (old new : Option (List ℕ)) : Type 0 where
+  pub run : IsRun choice script
+  pub whole : IsWhole run
+  pub wrote : Appends old new (run_text run)
+  pub quiet : choice.listing ≡ Quiet → run_text run ≡ flat_map array_text (eager_arrays run.steps)
 
--- at status 0 nothing but the eager arrays of an accepted script was written
+-- at status 0 nothing but that was written
 abbrev pub PrintsEagerly : Type 0
 PrintsEagerly =
-    (script : List ℕ) (proof old new : Option (List ℕ)) (store after : Stored)
-    → Serves (Some Run) (Some script) proof 0 old new store after → PrintsArrays script old new
+    (choice : Choice) (script : List ℕ) (proof old new : Option (List ℕ)) (store after : Stored)
+    → Serves (Some (Run choice)) (Some script) proof 0 old new store after → PrintsRun choice script old new
 
 -- at status 1 the store is as it was
 abbrev pub RefusalKeepsStore : Type 0
 RefusalKeepsStore =
-    (script proof old new : Option (List ℕ)) (store after : Stored)
-    → Serves (Some Run) script proof 1 old new store after → after ≡ store
+    (choice : Choice) (script proof old new : Option (List ℕ)) (store after : Stored)
+    → Serves (Some (Run choice)) script proof 1 old new store after → after ≡ store
 
 -- the words of `run` never get status 2
 abbrev pub RunIsKnown : Type 0
 RunIsKnown =
-    (script proof old new : Option (List ℕ)) (store after : Stored)
-    → Serves (Some Run) script proof 2 old new store after → ⊥
+    (choice : Choice) (script proof old new : Option (List ℕ)) (store after : Stored)
+    → Serves (Some (Run choice)) script proof 2 old new store after → ⊥
 
 -- where neither count of faults changed, no fault is answered
 abbrev pub FaultsAreCounted : Type 0

@@ -4,4 +4,5 @@ pub mod Pieces
 pub mod Answers
 pub mod Shown
 pub mod Parts
+pub mod Flushes
 pub mod Laws

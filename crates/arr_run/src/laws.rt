@@ -2,7 +2,8 @@
 ghost use Rattle.arr_run.specs.Laws.{FaultsAreCounted, PrintsEagerly, RanInArrays, RanInHead, RanWhole, RefusalKeepsStore, RunIsKnown};
 
 /// What the statuses of `run` say, taken from the relation `Serves` alone (docs/LANGUAGE.md, "The program"): at 0 the script is
-/// accepted, and its eager arrays are all that was written; at 1 the store is as it was; 2 never comes.
+/// accepted, and the text of a whole run of it was written: plan lines, where they are listed, and its eager arrays, and where no plans are
+/// listed these arrays alone; at 1 the store is as it was; 2 never comes.
 pub fn statuses_say()
     ensures done { PrintsEagerly }
     ensures refused { RefusalKeepsStore }

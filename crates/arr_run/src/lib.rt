@@ -2,15 +2,19 @@
 //!
 //! [`serve`] does all that the program does. Its contract is one relation, `Serves` in specs/Answers.antt: which status and which
 //! bytes a command may answer to a script, and what the store is then, wherever the writing ended. The arrays in it are the eager
-//! arrays of arr_elab, where each operation runs when its statement is reached and nothing is freed or put off; the lines are those
-//! of specs/Texts.antt. That the program records lists, with gathers and scatters between them, and frees
-//! bases shows in the store alone: where a write failed, it is what the parts up to that write leave.
+//! arrays of arr_elab, where each operation runs when its statement is reached and nothing is freed or put off; their lines are those of
+//! arr_listing. That the program records lists, with gathers and scatters between them, frees bases, rewrites and plans
+//! shows in the store, where a write failed, and in the plan lines, where they are asked for (specs/Pieces.antt).
+//!
+//! [`flush_once`] runs one list: it is rewritten, planned, listed, run block by block, and printed (`Reports` in specs/Flushes.antt).
 //!
 //! A fault of reading or writing is answered only where the source or the sink counted one in this call (clause `blames`), and an
 //! accepted script is not refused (`complete`). Want of memory alone may come anywhere. What follows from the relation for a caller
 //! stands in `laws.rt`.
 #![tactic(auto)]
 
+mod choice;
+mod flush;
 mod laws;
 mod parts;
 mod program;
@@ -18,6 +22,8 @@ mod script;
 mod texts;
 mod words;
 
+pub use choice::{Choice, Fuse, Listing};
+pub use flush::{Report, RunFault, flush_once};
 pub use laws::{faults_are_counted, parts_are_counted, statuses_say};
 pub use program::serve;
 pub use words::Command;

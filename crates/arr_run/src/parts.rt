@@ -1,101 +1,30 @@
-//! Parts that run on the store, each list printed when it has run.
-ghost use Rattle.std.specs.Prelude.{◌≡◌, ◌≤◌, ◌<◌, ◌*◌, ◌^◌, ℕ, true, Some, IsErrOf, OnOk, length};
-ghost use Rattle.std.specs.List.{flat_map, list_all};
+//! Parts that run on the store one after another.
+ghost use Rattle.std.specs.Prelude.{◌≡◌, ◌≤◌, ◌<◌, ◌*◌, ◌-◌, ◌^◌, true, IsErrOf, OnOk, length};
+ghost use Rattle.std.specs.List.{list_all};
 ghost use Rattle.arr_ops.specs.Fits.{fits};
-ghost use Rattle.arr_ops.specs.Memory.{eager, without_slots};
 ghost use Rattle.arr_ops.specs.Formed.{is_formed};
+ghost use Rattle.arr_ops.specs.Memory.{eager, without_slots};
+ghost use Rattle.arr_record.specs.declared.part.Part.TheVariants.{Flush};
 ghost use Rattle.arr_ops.specs.Gathers.{gather_fits, gathered, is_gather, is_scatter, scatter_fits, scattered};
-ghost use Rattle.arr_elab.specs.Steps.{printed};
-ghost use Rattle.arr_record.specs.Runs.{after_part, after_parts, each_fits, is_part, part_fits, printed_part};
-ghost use Rattle.arr_store.specs.Slots.{slots_of};
+ghost use Rattle.arr_record.specs.Runs.{after_part, after_parts, each_fits, is_part, part_fits};
 ghost use Rattle.arr_store.specs.Stored.{memory_of};
-ghost use Rattle.arr_run.specs.Texts.{array_text};
-ghost use Rattle.arr_run.specs.Shown.{AllShow, Shows, slot_text, slots_text};
-ghost use Rattle.arr_run.specs.Parts.{Caused, CountsBelow, OnRan, RisesBy, StoppedIn, Wrote, parts_text};
+ghost use Rattle.arr_run.specs.Parts.{Caused, CountsBelow, CutIn, RisesBy, StoppedIn, Wrote, parts_text, segment_at};
+ghost use Rattle.arr_run.specs.Pieces.{number_behind, segment_text};
 
-use crate::texts::push_array;
+use crate::choice::Choice;
+use crate::flush::{RunFault, flush_once};
 use arr_gather::{gather, scatter};
-use arr_io::{NoMemory, Sink, WriteFault, write_all};
+use arr_io::{NoMemory, Sink};
 use arr_ops::{Gather, Op, Scatter};
-use arr_perform::perform_all;
 use arr_record::Part;
-use arr_store::{Slots, Store};
+use arr_store::Store;
 use std::alloc::Global;
-
-/// Why parts did not all run.
-#[derive(Clone, Copy, Debug, PartialEq, Eq)]
-pub(crate) enum RunFault {
-    WriteFault,
-    NoMemory,
-}
-
-/// Prints what an operation shows, if it is a SYNC. The text is made in `text`.
-fn print_slot<K: Sink>(
-    text: &mut Vec<u8>,
-    op: &Op,
-    slots: &Slots,
-    sink: &mut K,
-) -> Result<(), RunFault>
-    requires { (s : ℕ) → op.now.slot ≡ Some s → Shows op.now (slots_of slots.now s) }
-    ensures wrote { Wrote result (K.written sink.old) (K.written sink.new) (slot_text (slots_of slots.now) op.now) }
-    ensures cause { Caused (K.faults sink.old) (K.faults sink.new) result }
-{
-    let Some(slot) = op.slot else {
-        return Ok(());
-    };
-    text.clear();
-    if push_array(text, op, slot, slots).is_err() {
-        return Err(RunFault::NoMemory);
-    }
-    match write_all(sink, text) {
-        Ok(()) => Ok(()),
-        Err(WriteFault) => Err(RunFault::WriteFault),
-    }
-}
-
-/// Prints what the SYNCs of a list show, in its order.
-fn print<K: Sink>(alloc: Global, ops: &[Op], slots: &Slots, sink: &mut K) -> Result<(), RunFault>
-    requires { AllShow (slots_of slots.now) ops.now }
-    ensures wrote { Wrote result (K.written sink.old) (K.written sink.new) (slots_text (slots_of slots.now) ops.now) }
-    ensures cause { Caused (K.faults sink.old) (K.faults sink.new) result }
-{
-    let mut text = Vec::new(alloc);
-    for op in ops {
-        print_slot(&mut text, op, slots, sink)?;
-    }
-    Ok(())
-}
-
-/// Runs a list, and prints what it shows.
-fn run_list<K: Sink>(
-    alloc: Global,
-    ops: &[Op],
-    store: &mut Store,
-    sink: &mut K,
-) -> Result<(), RunFault>
-    requires formed { is_formed ops.now ≡ true }
-    requires fitting { fits (memory_of store.old) ops.now ≡ true }
-    requires few { length ops.now ≤ 256 }
-    requires counts { CountsBelow (2 ^ 61) store.old }
-    ensures wrote { Wrote result (K.written sink.old) (K.written sink.new) (flat_map array_text (printed (memory_of store.old) ops.now)) }
-    ensures cause { Caused (K.faults sink.old) (K.faults sink.new) result }
-    ensures memory { OnRan result (memory_of store.new ≡ without_slots (eager (memory_of store.old) ops.now)) }
-    ensures counts { OnRan result (RisesBy (2 ^ 32) store.old store.new) }
-{
-    let Ok(mut slots) = Slots::for_list(alloc, ops) else {
-        return Err(RunFault::NoMemory);
-    };
-    let Ok(()) = perform_all(alloc, ops, store, &mut slots) else {
-        return Err(RunFault::NoMemory);
-    };
-    print(alloc, ops, &slots, sink)
-}
 
 /// Runs a gather.
 fn run_gather(alloc: Global, op: &Gather, store: &mut Store) -> Result<(), RunFault>
     requires lawful { is_gather op.now ≡ true }
     requires fitting { gather_fits (memory_of store.old) op.now ≡ true }
-    requires counts { CountsBelow (2 ^ 61) store.old }
+    requires counts { CountsBelow (2 ^ 60) store.old }
     ensures memory { OnOk result (memory_of store.new ≡ gathered (memory_of store.old) op.now) }
     ensures counts { OnOk result (RisesBy (2 ^ 32) store.old store.new) }
     ensures silent { IsErrOf result RunFault.WriteFault → ⊥ }
@@ -110,7 +39,7 @@ fn run_gather(alloc: Global, op: &Gather, store: &mut Store) -> Result<(), RunFa
 fn run_scatter(alloc: Global, op: &Scatter, store: &mut Store) -> Result<(), RunFault>
     requires lawful { is_scatter op.now ≡ true }
     requires fitting { scatter_fits (memory_of store.old) op.now ≡ true }
-    requires counts { CountsBelow (2 ^ 61) store.old }
+    requires counts { CountsBelow (2 ^ 60) store.old }
     ensures memory { OnOk result (memory_of store.new ≡ scattered (memory_of store.old) op.now) }
     ensures counts { OnOk result (RisesBy (2 ^ 32) store.old store.new) }
     ensures silent { IsErrOf result RunFault.WriteFault → ⊥ }
@@ -121,32 +50,76 @@ fn run_scatter(alloc: Global, op: &Scatter, store: &mut Store) -> Result<(), Run
     }
 }
 
-/// Runs a part: a list is printed when it has run, a gather or scatter writes nothing.
+/// The number of the next flush behind a part.
+fn number_behind(part: &Part, number: u32) -> u32
+    requires { number < 2 ^ 32 - 1 }
+    ensures { result ≡ number_behind part.now number }
+{
+    match part {
+        Part::Flush(_) => number + 1,
+        Part::Gather(_) => number,
+        Part::Scatter(_) => number,
+    }
+}
+
+/// Runs a list as the flush with this number.
+fn run_flush<K: Sink>(
+    alloc: Global,
+    choice: Choice,
+    number: u32,
+    ops: &[Op],
+    store: &mut Store,
+    sink: &mut K,
+) -> Result<(), RunFault>
+    requires formed { is_formed ops.now ≡ true }
+    requires fitting { fits (memory_of store.old) ops.now ≡ true }
+    requires few { length ops.now ≤ 256 }
+    requires counts { CountsBelow (2 ^ 60) store.old }
+    ensures wrote { Wrote result (K.written sink.old) (K.written sink.new)
+        (segment_text (segment_at choice number (memory_of store.old) (Flush ops.now))) }
+    ensures cause { Caused (K.faults sink.old) (K.faults sink.new) result }
+    ensures memory { OnOk result (memory_of store.new ≡ without_slots (eager (memory_of store.old) ops.now)) }
+    ensures counts { OnOk result (RisesBy (2 ^ 32) store.old store.new) }
+    ensures stopped { IsErrOf result RunFault.WriteFault
+        → CutIn (segment_at choice number (memory_of store.old) (Flush ops.now)) (without_slots (eager (memory_of store.old) ops.now))
+        (K.written sink.old) (K.written sink.new) store.old store.new }
+{
+    flush_once(alloc, store, number, ops, choice, sink)?;
+    Ok(())
+}
+
+/// Runs a part: a list is a flush with this number, a gather or scatter writes nothing.
 fn run_part<K: Sink>(
     alloc: Global,
+    choice: Choice,
+    number: u32,
     part: &Part,
     store: &mut Store,
     sink: &mut K,
 ) -> Result<(), RunFault>
     requires part { is_part part.now ≡ true }
     requires fitting { part_fits (memory_of store.old) part.now ≡ true }
-    requires counts { CountsBelow (2 ^ 61) store.old }
+    requires counts { CountsBelow (2 ^ 60) store.old }
     ensures wrote { Wrote result (K.written sink.old) (K.written sink.new)
-        (flat_map array_text (printed_part (memory_of store.old) part.now)) }
+        (segment_text (segment_at choice number (memory_of store.old) part.now)) }
     ensures cause { Caused (K.faults sink.old) (K.faults sink.new) result }
-    ensures memory { OnRan result (memory_of store.new ≡ after_part (memory_of store.old) part.now) }
-    ensures counts { OnRan result (RisesBy (2 ^ 32) store.old store.new) }
+    ensures memory { OnOk result (memory_of store.new ≡ after_part (memory_of store.old) part.now) }
+    ensures counts { OnOk result (RisesBy (2 ^ 32) store.old store.new) }
+    ensures stopped { IsErrOf result RunFault.WriteFault
+        → CutIn (segment_at choice number (memory_of store.old) part.now) (after_part (memory_of store.old) part.now)
+        (K.written sink.old) (K.written sink.new) store.old store.new }
 {
     match part {
-        Part::Flush(ops) => run_list(alloc, ops.list(), store, sink),
+        Part::Flush(ops) => run_flush(alloc, choice, number, ops.list(), store, sink),
         Part::Gather(op) => run_gather(alloc, op, store),
         Part::Scatter(op) => run_scatter(alloc, op, store),
     }
 }
 
-/// Runs parts one after another.
+/// Runs parts one after another, the flushes having the numbers from 1 on.
 pub(crate) fn run_parts<K: Sink>(
     alloc: Global,
+    choice: Choice,
     parts: &[Part],
     store: &mut Store,
     sink: &mut K,
@@ -155,15 +128,17 @@ pub(crate) fn run_parts<K: Sink>(
     requires fitting { each_fits (memory_of store.old) parts.now ≡ true }
     requires few { length parts.now ≤ 4_194_304 }
     requires counts { CountsBelow (2 ^ 59) store.old }
-    ensures wrote { Wrote result (K.written sink.old) (K.written sink.new) (parts_text (memory_of store.old) parts.now) }
+    ensures wrote { Wrote result (K.written sink.old) (K.written sink.new) (parts_text choice 1 (memory_of store.old) parts.now) }
     ensures cause { Caused (K.faults sink.old) (K.faults sink.new) result }
     ensures memory { OnOk result (memory_of store.new ≡ after_parts (memory_of store.old) parts.now) }
     ensures counts { OnOk result (RisesBy (length parts.now * 2 ^ 32) store.old store.new) }
     ensures stopped { IsErrOf result RunFault.WriteFault
-        → StoppedIn (memory_of store.old) parts.now (K.written sink.old) (K.written sink.new) store.old store.new }
+        → StoppedIn choice 1 (memory_of store.old) parts.now (K.written sink.old) (K.written sink.new) store.old store.new }
 {
+    let mut number = 1;
     for part in parts {
-        run_part(alloc, part, store, sink)?;
+        run_part(alloc, choice, number, part, store, sink)?;
+        number = number_behind(part, number);
     }
     Ok(())
 }

@@ -1,8 +1,9 @@
-use Rattle.std.proofs.Common.{◌≡◌, ◌*◌, ◌^◌, ◌≤◌, drop, take, true}
+use Rattle.std.proofs.Common.{◌≡◌, ◌*◌, ◌^◌, ◌+◌, ◌≤◌, drop, take, true}
 use Rattle.std.specs.Io.KnownBytes.{Appends}
 use Rattle.arr_record.specs.Runs.{after_parts, each_fits}
 use Rattle.arr_store.specs.Stored.{memory_of}
 use Rattle.arr_run.specs.Parts.{RisesBy, parts_text}
+use Rattle.arr_run.proofs.Turns.{number_after}
 use Rattle.arr_run.proofs.parts.run_parts.Given as goal
 
 abbrev pub invariant-loop-part : goal.invariant-loop-part
@@ -11,8 +12,10 @@ invariant-loop-part g l =
     let now = memory_of l.store in
     record {
       fitting : each_fits now (drop l.part-index l.parts) ≡ true;
-      wrote : Appends (g.K.Sink.written l.initial.sink) (g.K.Sink.written l.sink) (parts_text before (take l.part-index l.parts));
+      wrote : Appends (g.K.Sink.written l.initial.sink) (g.K.Sink.written l.sink) (parts_text l.choice 1 before (take l.part-index l.parts));
       memory : now ≡ after_parts before (take l.part-index l.parts);
+      number : l.number ≡ number_after 1 (take l.part-index l.parts);
+      few : l.number ≤ l.part-index + 1;
       counts : RisesBy (l.part-index * 2 ^ 32) l.initial.store l.store;
       later : g.K.Sink.faults l.initial.sink ≤ g.K.Sink.faults l.sink;
     }
