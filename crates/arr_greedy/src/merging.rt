@@ -102,7 +102,12 @@ fn joined(
     ensures numbers { IfOk result (λ block. block.numbers.items ≡ union (numbered costs.now) (row_at (map (λ b. b.numbers.items) blocks.now) left) (row_at (map (λ b. b.numbers.items) blocks.now) right)) }
     ensures print { IfOk result (λ block. IsFootprint costs.now block.numbers.items block.print) }
 {
-    let numbers = union_of(alloc, row_at(blocks, left), row_at(blocks, right), costs.len())?;
+    let numbers = union_of(
+        alloc,
+        row_at(blocks, left),
+        row_at(blocks, right),
+        costs.len(),
+    )?;
     let print = blocks[left].print.joined(alloc, &blocks[right].print)?;
     Ok(Block { numbers, print })
 }
