@@ -1,106 +1,95 @@
 #!/usr/bin/env python3
-"""Prints how much processor time the gate takes, crate by crate: each is proved from nothing in a fresh clone of what is committed.
+"""Runs the gate in a fresh clone of what is committed, and prints how much time it took, crate by crate.
 
-usage: gate_times.py [--jobs N] [NAME ..]
+usage: gate_times.py [FOLDER]
 
-Without names all crates of crates.txt are taken, which costs about as much as the gate itself. With names the crates below them are
-proved too, since nothing is kept, and only the named ones are shown. Times are in seconds of processor time: of the proof and the
-library, of the tests with the proof that they need, and of the must-fail edits.
+The clone is made in FOLDER, which must not exist, and is kept there; without FOLDER it is thrown away. The gate's own output goes to standard
+error. Times are seconds of processor time: of the proof and the library, of the tests with the proof that they need, and of the must-fail
+edits. They are read from /proc five times a second, so each check may take a fifth of a second more than is shown.
 """
 import os
-import resource
-import shutil
 import subprocess
 import sys
 import tempfile
+import time
 
 TOP = os.path.dirname(os.path.dirname(os.path.abspath(__file__)))
+TICKS = os.sysconf("SC_CLK_TCK")
+KINDS = ("proof", "tests", "edits")
 
 
-def stands_on():
-    """The crates of crates.txt, each with the crates of the repository that it stands on, lowest first."""
-    lines = {}
-    with open(os.path.join(TOP, "crates.txt")) as file:
-        for line in file:
-            name, colon, below = line.partition("#")[0].partition(":")
-            if colon:
-                lines[name.split()[0]] = below.split()
-    ordered = {}
-
-    def put(name):
-        for below in lines[name]:
-            if below in lines and below not in ordered:
-                put(below)
-        ordered.setdefault(name, [it for it in lines[name] if it in lines])
-
-    for name in lines:
-        put(name)
-    return ordered
+def words_of(pid):
+    with open(f"/proc/{pid}/cmdline", "rb") as file:
+        return file.read().decode(errors="replace").split("\0")
 
 
-def needed(names, ordered):
-    """The names and all that they stand on, lowest first."""
-    wanted = set()
-
-    def want(name):
-        if name not in wanted:
-            wanted.add(name)
-            for below in ordered[name]:
-                want(below)
-
-    for name in names:
-        want(name)
-    return [name for name in ordered if name in wanted]
+def started_and_used(pid):
+    """When a process started, in ticks, and the processor seconds that it and its ended children used."""
+    with open(f"/proc/{pid}/stat") as file:
+        fields = file.read().rpartition(")")[2].split()
+    return fields[19], sum(map(int, fields[11:15])) / TICKS
 
 
-def timed(folder, *words):
-    """The processor seconds of a command, which must end well."""
-    before = resource.getrusage(resource.RUSAGE_CHILDREN)
-    done = subprocess.run(["rt", *words], cwd=folder, stdin=subprocess.DEVNULL, capture_output=True, text=True)
-    after = resource.getrusage(resource.RUSAGE_CHILDREN)
-    if done.returncode:
-        sys.exit(f"rt {' '.join(words)} in {folder}: status {done.returncode}\n{(done.stdout + done.stderr)[-2000:]}")
-    return after.ru_utime + after.ru_stime - before.ru_utime - before.ru_stime
+def kind_of(pid, words, clone):
+    """Which part of the gate a check belongs to: edits are tried on copies of a crate outside the clone."""
+    if not os.readlink(f"/proc/{pid}/cwd").startswith(clone):
+        return "edits"
+    return "tests" if "--test" in words else "proof"
 
 
-def is_tested(folder):
-    for at, _, files in os.walk(os.path.join(folder, "src")):
-        for name in files:
-            with open(os.path.join(at, name)) as file:
-                if "#[test]" in file.read():
-                    return True
-    return False
+def is_below(pid, top):
+    while pid != top and pid > 1:
+        with open(f"/proc/{pid}/stat") as file:
+            pid = int(file.read().rpartition(")")[2].split()[1])
+    return pid == top
 
 
-def times_of(top, name, jobs):
-    folder = os.path.join(top, "crates", name)
-    is_program = os.path.exists(os.path.join(folder, "src", "main.rt"))
-    proof = timed(folder, "run" if is_program else "lib", "--jobs", jobs)
-    tests = timed(folder, "test", "--jobs", jobs) if is_tested(folder) else 0.0
-    edits = timed(top, "must-fail", name) if os.path.isdir(os.path.join(folder, "must-fail")) else 0.0
-    return proof, tests, edits
+def look(gate, clone, seen):
+    """Notes of each check that runs now what it is, and the time that it has used."""
+    for name in os.listdir("/proc"):
+        if not name.isdigit():
+            continue
+        try:
+            words = words_of(name)
+            if "--crate-name" in words and is_below(int(name), gate):
+                started, used = started_and_used(name)
+                crate = words[words.index("--crate-name") + 1]
+                seen[name, started] = (crate, kind_of(name, words, clone), used)
+        except (OSError, ValueError):
+            pass  # it has ended
+
+
+def table(seen):
+    sums = {}
+    for crate, kind, used in seen.values():
+        row = sums.setdefault(crate.removesuffix("_tests"), dict.fromkeys(KINDS, 0.0))
+        row[kind] += used
+    print(f"{'crate':14}" + "".join(f" {it:>7}" for it in (*KINDS, "all")))
+    for crate, row in sorted(sums.items(), key=lambda it: -sum(it[1].values())):
+        print(f"{crate:14}" + "".join(f" {it:7.0f}" for it in (*row.values(), sum(row.values()))))
+    print(f"{'all':14}" + "".join(f" {sum(row[kind] for row in sums.values()):7.0f}" for kind in KINDS)
+          + f" {sum(sum(row.values()) for row in sums.values()):7.0f}")
+
+
+def watched(clone):
+    """Runs the gate in a clone, and answers its status."""
+    subprocess.run(["git", "clone", "-q", TOP, clone], check=True)
+    seen, began = {}, time.monotonic()
+    gate = subprocess.Popen(["rt", "ci"], cwd=clone, stdin=subprocess.DEVNULL, stdout=sys.stderr)
+    while gate.poll() is None:
+        look(gate.pid, os.path.realpath(clone), seen)
+        time.sleep(0.2)
+    table(seen)
+    print(f"{(time.monotonic() - began) / 60:.1f} minutes of wall time on {os.cpu_count()} processors")
+    return gate.returncode
 
 
 def main(words):
-    jobs = "1"
-    if words[:1] == ["--jobs"]:
-        jobs, words = words[1], words[2:]
-    ordered = stands_on()
-    shown = words or list(ordered)
-    top = tempfile.mkdtemp(prefix="gate-times-")
-    try:
-        subprocess.run(["git", "clone", "-q", TOP, top], check=True)
-        print(f"{'crate':14} {'proof':>7} {'tests':>7} {'edits':>7} {'all':>7}")
-        total = 0.0
-        for name in needed(shown, ordered):
-            parts = times_of(top, name, jobs)
-            if name in shown:
-                total += sum(parts)
-                print(f"{name:14}" + "".join(f" {it:7.0f}" for it in (*parts, sum(parts))), flush=True)
-        print(f"{'all':14} {'':23} {total:7.0f}")
-    finally:
-        shutil.rmtree(top, ignore_errors=True)
+    if words:
+        return watched(words[0])
+    with tempfile.TemporaryDirectory(prefix="gate-times-") as room:
+        return watched(os.path.join(room, "clone"))
 
 
 if __name__ == "__main__":
-    main(sys.argv[1:])
+    sys.exit(main(sys.argv[1:]))
