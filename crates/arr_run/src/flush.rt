@@ -28,6 +28,7 @@ use arr_listing::{put_array, write_plan};
 use arr_ops::{Op, Plan};
 use arr_perform::perform_plan;
 use arr_rewrite::rewrite;
+use arr_sets::MOST;
 use arr_store::{Slots, Store};
 use std::alloc::Global;
 
@@ -213,7 +214,7 @@ fn run_prepared<K: Sink>(
 /// Runs one flush, which has this number, from 1: the list is rewritten, the rewritten list is planned, the plan is written where it is listed,
 /// the blocks run on the store one after another, and the arrays that the list prints are written (docs/PLANS.md, "Flushes" and "The listing").
 ///
-/// The list is formed and has at most 256 operations, and the store has what it needs. Afterwards the store has the bases that the recorded
+/// The list is formed and has at most `MOST` operations, and the store has what it needs. Afterwards the store has the bases that the recorded
 /// list leaves, its operations run one after another.
 ///
 /// `WriteFault` comes only where the sink's count of faults rose in this call; then a byte is missing of what was to be written, and the
@@ -229,7 +230,7 @@ pub fn flush_once<K: Sink>(
 ) -> Result<Report, RunFault>
     requires formed { is_formed ops.now ≡ true }
     requires fitting { fits (memory_of store.old) ops.now ≡ true }
-    requires few { length ops.now ≤ 256 }
+    requires few { length ops.now ≤ MOST }
     requires counts { CountsBelow (2 ^ 60) store.old }
     ensures wrote { OnOk result (Appends (K.written sink.old) (K.written sink.new)
         (segment_text (segment_at choice number (memory_of store.old) (Flush ops.now)))) }
