@@ -42,7 +42,7 @@ number_back n m X Y p q s t e =
     let r = digits_back (decimal n) (decimal m) X Y (decimal_is_IsNumeral n p).0.1 (decimal_is_IsNumeral m q).0.1 s t e in
     (decimal_injective n m p q r.0, r.1)
 
-abbrev Small : List ℕ → Type 0
+abbrev pub Small : List ℕ → Type 0
 Small ns = list_all (λ n. nat_lt n (2 ^ 64)) ns ≡ true
 
 small_first : (n : ℕ) (ns : List ℕ) → Small (n ∷ ns) → (n < 2 ^ 64) × Small ns
@@ -67,7 +67,7 @@ behind_back sign (n ∷ ns) (m ∷ ms) Z W d p q s t u v e =
     (ap (λ c. c ∷ ns) r.0 ∙ ap (λ zs. m ∷ zs) k.0, k.1)
 
 -- the end of a line
-ends_back : (ns ms X Y : List ℕ) → Small ns → Small ms → (spaced ns ++ 10 ∷ []) ++ X ≡ (spaced ms ++ 10 ∷ []) ++ Y → (ns ≡ ms) × (X ≡ Y)
+pub ends_back : (ns ms X Y : List ℕ) → Small ns → Small ms → (spaced ns ++ 10 ∷ []) ++ X ≡ (spaced ms ++ 10 ∷ []) ++ Y → (ns ≡ ms) × (X ≡ Y)
 ends_back ns ms X Y p q e =
     let r = behind_back 32 ns ms (10 ∷ X) (10 ∷ Y) (λ l. absurd (omega arith)) p q (λ l. absurd (omega arith)) (λ l. absurd (omega arith)) (eqb-false 10 32 refl) (eqb-false 10 32 refl)
     (sym (append_assoc (spaced ns) (10 ∷ []) X) ∙ (e ∙ append_assoc (spaced ms) (10 ∷ []) Y)) in
@@ -75,7 +75,7 @@ ends_back ns ms X Y p q e =
 
 -- ---- groups
 
-small_join : (ns ms : List ℕ) → Small (ns ++ ms) → Small ns × Small ms
+pub small_join : (ns ms : List ℕ) → Small (ns ++ ms) → Small ns × Small ms
 small_join [] ms h = (refl, h)
 small_join (n ∷ ns) ms h =
     let p = and_parts (nat_lt n (2 ^ 64)) (list_all (λ n. nat_lt n (2 ^ 64)) (ns ++ ms)) h in
@@ -167,7 +167,7 @@ third_back k h j a b e = go (takes_two k) a b e
     go true a b e = eqb-true h 0 a ∙ sym (eqb-true j 0 b)
     go false a b e = cc
 
-abbrev Back : Record → Record → List ℕ → List ℕ → Type 0
+abbrev pub Back : Record → Record → List ℕ → List ℕ → Type 0
 Back r s X Y = (r ≡ s) × (X ≡ Y)
 
 small_of : (r : Record) → is_plain r ≡ true → (is_spelled r ≡ true) × Small (numbers_of r)
@@ -193,7 +193,7 @@ head_small n c v p = go (v == 1)
     go true = q.0
     go false = p
 
-line_back : (r s : Record) (X Y : List ℕ) → is_plain r ≡ true → is_plain s ≡ true → line_text r ++ X ≡ line_text s ++ Y → Back r s X Y
+pub line_back : (r s : Record) (X Y : List ℕ) → is_plain r ≡ true → is_plain s ≡ true → line_text r ++ X ≡ line_text s ++ Y → Back r s X Y
 line_back (Flush n c v) (Flush m d w) X Y p q e =
     let a = small_of (Flush n c v) p in
     let b = small_of (Flush m d w) q in

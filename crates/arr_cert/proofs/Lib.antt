@@ -1,3 +1,12 @@
 pub mod Writes
 pub mod Lines
 pub mod Differ
+pub mod Decimals
+pub mod Joined
+pub mod Numbers
+pub mod Groups
+pub mod Words
+pub mod Passing
+pub mod Looking
+pub mod Back
+pub mod Decided

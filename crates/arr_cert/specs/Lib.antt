@@ -1,3 +1,9 @@
 pub mod Texts
 pub mod Wrote
 pub mod Laws
+pub mod Spelling
+pub mod Reading
+pub mod Spelled
+pub mod Unread
+pub mod Proofs
+pub mod Back

@@ -114,7 +114,7 @@ fn put_head<K: Sink>(sink: &mut K, so_far: Going, number: u32, count: u32, versi
 }
 
 /// Whether a rule is about two operations; else it is about three.
-fn takes_two(rule: u8) -> bool
+pub(crate) fn takes_two(rule: u8) -> bool
     ensures { result ≡ takes_two rule }
 {
     rule == 3 || rule == 5 || rule == 9
