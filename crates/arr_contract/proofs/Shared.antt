@@ -11,7 +11,7 @@ use Rattle.arr_ops.proofs.Spots.{Formed, formed_of}
 use Rattle.arr_strips.proofs.Legal.{BlockFacts, all_ops, block_facts}
 use Rattle.arr_contract.specs.Prepared.{IsBlockOf, may_share_block}
 
-typed_block : (list : List Op) (block : List ℕ) → is_formed list ≡ true → each_typed (ops_of (numbered list) block) ≡ true
+pub typed_block : (list : List Op) (block : List ℕ) → is_formed list ≡ true → each_typed (ops_of (numbered list) block) ≡ true
 typed_block list block formed =
     let xs : List (ℕ × Op) = numbered list in
     let ops : List Op = ops_of xs block in

@@ -5,16 +5,19 @@
 //! block that is prepared runs without taking memory.
 //!
 //! The promise: the operations are those of the block, in list order; reads, writes, contracted bases and the count of numbers are exactly
-//! the definitions of arr_ops (docs/PLANS.md, "Cost" and "Running a block"). Only making one takes memory.
+//! the definitions of arr_ops (docs/PLANS.md, "Cost" and "Running a block"). Only making one takes memory. `blocks_weigh` is the law that what a
+//! block reads and writes weighs, by the types of its own operations, what it weighs in its list.
 //!
 //! The definitions: `specs/Prepared.antt` has what a contract sees of a `Prepared` (`PreparedBlock`), which blocks are meant
-//! (`IsBlockOf`), and what holds of the operations of each (`may_share_block`).
+//! (`IsBlockOf`), and what holds of the operations of each (`may_share_block`); `specs/Laws.antt` has the law as a statement.
 #![tactic(auto)]
 
 mod contracted;
+mod laws;
 mod prepared;
 mod scratch;
 
+pub use laws::blocks_weigh;
 pub use prepared::Prepared;
 
 /// Want of memory.
