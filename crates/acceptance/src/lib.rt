@@ -5,6 +5,8 @@
 #[cfg(test)]
 mod calls;
 #[cfg(test)]
+mod planners;
+#[cfg(test)]
 mod program;
 #[cfg(test)]
 mod runs;
