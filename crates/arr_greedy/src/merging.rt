@@ -223,12 +223,12 @@ fn one_turn(
     ensures reaches_size { length reaches.new ≡ width * width }
     ensures saved_size { IfOk result (λ done. length saved.new ≡ width * width) }
     ensures fuses { (x y : ℕ) → x < width → y < width → flag fuses.new width x y ≡ fuses_after (flag fuses.old width) left right x y }
-    ensures reaches { (x y : ℕ) → x < width → y < width → x ≢ right → flag reaches.new width x y ≡ reach_after (λ k. k) (flag reaches.old width) left right x y }
+    ensures reaches { IfOk result (λ done. (x y : ℕ) → x < width → y < width → x ≢ right → flag reaches.new width x y ≡ reach_after (λ k. k) (flag reaches.old width) left right x y) }
     ensures priced { IfOk result (λ done. (i : ℕ) → i < length keys.new.items → amount saved.new width (min (get_or keys.new.items i 0) left) (max (get_or keys.new.items i 0) left) ≡ saving costs.now (block_at (min (get_or keys.new.items i 0) left) (live (map (λ b. b.numbers.items) blocks.new.items)), block_at (max (get_or keys.new.items i 0) left) (live (map (λ b. b.numbers.items) blocks.new.items)))) }
     ensures others { IfOk result (λ done. (x y : ℕ) → x < width → y < width → x ≢ left → y ≢ left → amount saved.new width x y ≡ amount saved.old width x y) }
 {
     fuse_rows(fuses, width, left, right);
-    reach_rows(reaches, width, left, right);
+    reach_rows(alloc, reaches, width, left, right)?;
     join(alloc, costs, blocks, left, right)?;
     drop_key(keys, right);
     price_row(
