@@ -45,17 +45,17 @@ amount_set rows w row column v size r c x y l m =
 
 -- ---- loops that set one flag a turn, over what the rows were, are, and are next
 
-less_more : (x i : ℕ) → x ≢ i → nat_lt x (i + 1) ≡ nat_lt x i
+pub less_more : (x i : ℕ) → x ≢ i → nat_lt x (i + 1) ≡ nat_lt x i
 less_more x i h =
     elim (cases_lt x i) as (λ _. nat_lt x (i + 1) ≡ nat_lt x i) [
       | inl l ↦ lt-ltb x (i + 1) (omega arith) ∙ sym (lt-ltb x i l)
       | inr l ↦ le-ltb x (i + 1) (omega arith) ∙ sym (le-ltb x i l)
     ]
 
-less_self : (i : ℕ) → nat_lt i i ≡ false
+pub less_self : (i : ℕ) → nat_lt i i ≡ false
 less_self i = le-ltb i i (omega arith)
 
-less_next : (i : ℕ) → nat_lt i (i + 1) ≡ true
+pub less_next : (i : ℕ) → nat_lt i (i + 1) ≡ true
 less_next i = lt-ltb i (i + 1) (omega arith)
 
 and_not : (b : Bool) → (b && false) ≡ false

@@ -12,3 +12,4 @@ mod Begun
 mod Grids
 mod GreedyBlocks
 mod Printed
+mod Gained

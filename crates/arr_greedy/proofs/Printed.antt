@@ -1,7 +1,6 @@
 -- Blocks with what they touch.
-use Rattle.std.proofs.Common.{◌≡◌, ℕ, ◌<◌, List, [], ◌++◌, length, map, get_or, ap, sym, subst, ◌∙◌}
+use Rattle.std.proofs.Common.{◌≡◌, ℕ, ◌<◌, List, [], ◌++◌, length, map, get_or, sym, subst}
 use Rattle.std.proofs.lemmas.List.{get_or-map}
-use Rattle.std.specs.List.{All}
 use Rattle.arr_ops.specs.declared.op.Op.{Op}
 use Rattle.arr_ops.specs.Plans.{numbered}
 use Rattle.arr_heur.specs.Planners.{union}

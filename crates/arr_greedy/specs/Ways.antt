@@ -23,6 +23,10 @@ reach_after key R a b x y =
     (cond (key y == key a) false (R a y || R b y))
     (cond (key y == key a) (R x a || R x b) (R x y || ((R x a || R x b) && (R a y || R b y))))
 
+-- what each node can reach then that could reach a or b: the two as one, and what that reaches
+abbrev pub gains : (ℕ → ℕ → Bool) → ℕ → ℕ → ℕ → Bool
+gains R a b y = y == a || (R a y || R b y)
+
 -- a third node on a way between a and b
 abbrev pub lies_between : {N : Type 0} → (N → ℕ) → (N → N → Bool) → N → N → N → Bool
 lies_between key R a b c = not (key c == key a || key c == key b) && ((R a c && R c b) || (R b c && R c a))

@@ -53,6 +53,26 @@ fn some_lies(keys: &[usize], reaches: &[bool], width: usize, left: usize, right:
     false
 }
 
+/// The same; those from a place on are asked first.
+fn some_lies_from(
+    keys: &[usize],
+    from: usize,
+    reaches: &[bool],
+    width: usize,
+    left: usize,
+    right: usize,
+) -> bool
+    requires from_in { from ≤ length keys.now }
+    requires left_in { left < width }
+    requires right_in { right < width }
+    requires keys_in { All (λ k. k < width) keys.now }
+    requires size { length reaches.now ≡ width * width }
+    ensures { result ≡ list_any (lies_between (λ k. k) (flag reaches.now width) left right) keys.now }
+{
+    let (front, back) = keys.split_at(from);
+    some_lies(back, reaches, width, left, right) || some_lies(front, reaches, width, left, right)
+}
+
 /// Whether a pair saves more than the one found so far.
 fn saves_more(
     saved: &[u64],
@@ -73,9 +93,11 @@ fn saves_more(
     }
 }
 
-/// The pair, if the two may be merged and save more than those found so far; else what was found.
+/// The pair, if the two may be merged and save more than those found so far; else what was found. Blocks between two are looked for from a
+/// place on first.
 fn taken(
     keys: &[usize],
+    from: usize,
     fuses: &[bool],
     reaches: &[bool],
     saved: &[u64],
@@ -84,6 +106,7 @@ fn taken(
     left: usize,
     right: usize,
 ) -> Option<(usize, usize)>
+    requires from_in { from ≤ length keys.now }
     requires left_in { left < width }
     requires right_in { right < width }
     requires keys_in { All (λ k. k < width) keys.now }
@@ -96,7 +119,7 @@ fn taken(
 {
     if at(fuses, width, left, right)
         && saves_more(saved, width, found, left, right)
-        && !some_lies(keys, reaches, width, left, right)
+        && !some_lies_from(keys, from, reaches, width, left, right)
     {
         Some((left, right))
     } else {
@@ -127,7 +150,17 @@ fn best_in_row(
 {
     let mut found = before;
     for place in from..keys.len() {
-        found = taken(keys, fuses, reaches, saved, width, found, left, keys[place]);
+        found = taken(
+            keys,
+            from,
+            fuses,
+            reaches,
+            saved,
+            width,
+            found,
+            left,
+            keys[place],
+        );
     }
     found
 }

@@ -1,5 +1,5 @@
 //! The merges of `greedy`.
-ghost use Rattle.std.specs.Prelude.{◌≡◌, ◌<◌, ◌*◌, ◌+◌, ◌==◌, ◌&&◌, ◌||◌, ◌≢◌, ◌++◌, ◌∷◌, [], length, ℕ, IfOk, IsTrue, cond, not, min, max, get_or, map};
+ghost use Rattle.std.specs.Prelude.{◌≡◌, ◌<◌, ◌*◌, ◌+◌, ◌==◌, ◌&&◌, ◌||◌, ◌≢◌, ◌++◌, ◌∷◌, ◌^◌, [], length, ℕ, IfOk, IsTrue, cond, not, false, min, max, get_or, map};
 ghost use Rattle.std.specs.List.{All, filter, range_with_len};
 ghost use Rattle.arr_view.specs.Views.{has};
 ghost use Rattle.arr_cost.specs.Footprints.{IsFootprint};
@@ -42,17 +42,44 @@ pub(crate) fn pair_saving(costs: &Costs, blocks: &[Block], left: usize, right: u
     costs.joint_saving(&blocks[left].print, &blocks[right].print)
 }
 
-/// Whether one of two blocks has a number.
-fn either_has(left: &[u32], right: &[u32], number: u32) -> bool
-    ensures { result ≡ (has left.now number || has right.now number) }
+/// Marks a number, if it is below the bound.
+fn mark(marks: &mut [bool], number: u32)
+    ensures size { length marks.new ≡ length marks.old }
+    ensures marks { (i : ℕ) → i < length marks.old → get_or marks.new i false ≡ (get_or marks.old i false || i == number) }
 {
-    has(left, number) || has(right, number)
+    let place = number as usize;
+    if place < marks.len() {
+        marks[place] = true;
+    }
 }
 
-fn has(block: &[u32], number: u32) -> bool
-    ensures { result ≡ has block.now number }
+/// Marks the numbers of a block that are below the bound.
+fn mark_all(marks: &mut [bool], block: &[u32])
+    ensures size { length marks.new ≡ length marks.old }
+    ensures marks { (i : ℕ) → i < length marks.old → get_or marks.new i false ≡ (get_or marks.old i false || has block.now i) }
 {
-    block.iter().any(|other| number == *other)
+    for number in block {
+        mark(marks, *number);
+    }
+}
+
+/// Of each number below a bound, whether one of two blocks has it.
+fn marks_of(alloc: Global, left: &[u32], right: &[u32], bound: usize) -> Result<Vec<bool>, NoMemory>
+    requires { bound < 2 ^ 32 }
+    ensures long { IfOk result (λ marks. length marks.items ≡ bound) }
+    ensures marks { IfOk result (λ marks. (i : ℕ) → i < bound → get_or marks.items i false ≡ (has left.now i || has right.now i)) }
+{
+    let mut marks = vec![in alloc; false; bound]?;
+    mark_all(marks.as_mut_slice(), left);
+    mark_all(marks.as_mut_slice(), right);
+    Ok(marks)
+}
+
+fn is_marked(marks: &[bool], number: u32) -> bool
+    requires { number < length marks.now }
+    ensures { result ≡ get_or marks.now number false }
+{
+    marks[number as usize]
 }
 
 fn push_if(inside: bool, found: &mut Vec<u32>, number: u32) -> Result<(), NoMemory>
@@ -69,10 +96,11 @@ fn union_of(alloc: Global, left: &[u32], right: &[u32], count: u32) -> Result<Ve
     requires { count < 256 + 1 }
     ensures { IfOk result (λ both. both.items ≡ filter (λ i. has left.now i || has right.now i) (range_with_len 1 count)) }
 {
+    let marks = marks_of(alloc, left, right, count as usize + 1)?;
     let mut both = Vec::new(alloc);
     for place in 0..count {
         let number = place + 1;
-        push_if(either_has(left, right, number), &mut both, number)?;
+        push_if(is_marked(marks.as_slice(), number), &mut both, number)?;
     }
     Ok(both)
 }
@@ -223,12 +251,12 @@ fn one_turn(
     ensures reaches_size { length reaches.new ≡ width * width }
     ensures saved_size { IfOk result (λ done. length saved.new ≡ width * width) }
     ensures fuses { (x y : ℕ) → x < width → y < width → flag fuses.new width x y ≡ fuses_after (flag fuses.old width) left right x y }
-    ensures reaches { (x y : ℕ) → x < width → y < width → x ≢ right → flag reaches.new width x y ≡ reach_after (λ k. k) (flag reaches.old width) left right x y }
+    ensures reaches { IfOk result (λ done. (x y : ℕ) → x < width → y < width → x ≢ right → flag reaches.new width x y ≡ reach_after (λ k. k) (flag reaches.old width) left right x y) }
     ensures priced { IfOk result (λ done. (i : ℕ) → i < length keys.new.items → amount saved.new width (min (get_or keys.new.items i 0) left) (max (get_or keys.new.items i 0) left) ≡ saving costs.now (block_at (min (get_or keys.new.items i 0) left) (live (map (λ b. b.numbers.items) blocks.new.items)), block_at (max (get_or keys.new.items i 0) left) (live (map (λ b. b.numbers.items) blocks.new.items)))) }
     ensures others { IfOk result (λ done. (x y : ℕ) → x < width → y < width → x ≢ left → y ≢ left → amount saved.new width x y ≡ amount saved.old width x y) }
 {
     fuse_rows(fuses, width, left, right);
-    reach_rows(reaches, width, left, right);
+    reach_rows(alloc, reaches, width, left, right)?;
     join(alloc, costs, blocks, left, right)?;
     drop_key(keys, right);
     price_row(

@@ -1,9 +1,13 @@
 //! The rows of the blocks, and what a merge makes of them.
-ghost use Rattle.std.specs.Prelude.{◌≡◌, ◌<◌, ◌*◌, ◌==◌, ◌&&◌, ◌≢◌, ◌||◌, length, ℕ, cond, not};
+ghost use Rattle.std.specs.Prelude.{◌≡◌, ◌<◌, ◌*◌, ◌==◌, ◌&&◌, ◌≢◌, ◌||◌, ◌++◌, ◌∷◌, [], length, ℕ, IfOk, cond, not};
+ghost use Rattle.std.specs.List.{All};
+ghost use Rattle.arr_view.specs.Views.{has};
 ghost use Rattle.arr_greedy.specs.Fast.{flag, fuses_after};
-ghost use Rattle.arr_greedy.specs.Ways.{reach_after};
+ghost use Rattle.arr_greedy.specs.Ways.{gains, reach_after};
 
+use crate::NoMemory;
 use crate::choice::at;
+use std::alloc::Global;
 
 /// Sets one flag.
 pub(crate) fn put(rows: &mut [bool], width: usize, row: usize, column: usize, value: bool)
@@ -81,39 +85,64 @@ fn reaches_one(rows: &[bool], width: usize, left: usize, right: usize, row: usiz
     at(rows, width, row, left) || at(rows, width, row, right)
 }
 
-/// Whether another block reaches one, once the second is part of the first; told whether it reached one of the two.
-fn reached_after(
+/// Whether the first block reaches another, once the second is part of it, or is that block.
+fn gains(rows: &[bool], width: usize, left: usize, right: usize, column: usize) -> bool
+    requires left_in { left < width }
+    requires right_in { right < width }
+    requires column_in { column < width }
+    requires size { length rows.now ≡ width * width }
+    ensures { result ≡ gains (flag rows.now width) left right column }
+{
+    column == left || at(rows, width, left, column) || at(rows, width, right, column)
+}
+
+fn push_if(inside: bool, found: &mut Vec<usize>, column: usize) -> Result<(), NoMemory>
+    ensures { IfOk result (λ done. found.new.items ≡ found.old.items ++ cond inside (column ∷ []) []) }
+{
+    if inside {
+        found.push(column)?;
+    }
+    Ok(())
+}
+
+/// The blocks that one of two reaches, and the first: what each block reaches that reaches one of the two.
+fn gained(
+    alloc: Global,
     rows: &[bool],
     width: usize,
     left: usize,
     right: usize,
-    row: usize,
-    column: usize,
-    reaches: bool,
-) -> bool
+) -> Result<Vec<usize>, NoMemory>
     requires left_in { left < width }
     requires right_in { right < width }
-    requires row_in { row < width }
-    requires column_in { column < width }
     requires size { length rows.now ≡ width * width }
-    ensures { result ≡ cond (column == left) reaches (flag rows.now width row column || (reaches && (flag rows.now width left column || flag rows.now width right column))) }
+    ensures below { IfOk result (λ found. All (λ y. y < width) found.items) }
+    ensures those { IfOk result (λ found. (y : ℕ) → y < width → has found.items y ≡ gains (flag rows.now width) left right y) }
 {
-    if column == left {
-        reaches
-    } else {
-        at(rows, width, row, column)
-            || (reaches && (at(rows, width, left, column) || at(rows, width, right, column)))
+    let mut found = Vec::new(alloc);
+    for column in 0..width {
+        push_if(gains(rows, width, left, right, column), &mut found, column)?;
     }
+    Ok(found)
 }
 
-/// One other block's row of what it reaches, once the second is part of the first.
-fn reach_row(rows: &mut [bool], width: usize, left: usize, right: usize, row: usize)
+/// One other block's row of what it reaches, once the second is part of the first; told what that gains.
+fn reach_row(
+    rows: &mut [bool],
+    width: usize,
+    left: usize,
+    right: usize,
+    row: usize,
+    columns: &[usize],
+)
     requires left_in { left < width }
     requires right_in { right < width }
     requires row_in { row < width }
     requires not_left { row ≢ left }
     requires not_right { row ≢ right }
     requires size { length rows.old ≡ width * width }
+    requires below { All (λ y. y < width) columns.now }
+    requires those { (y : ℕ) → y < width → has columns.now y ≡ gains (flag rows.old width) left right y }
     ensures size { length rows.new ≡ width * width }
     ensures row { (x y : ℕ) → x < width → y < width → flag rows.new width x y ≡ cond (x == row) (reach_after (λ k. k) (flag rows.old width) left right x y) (flag rows.old width x y) }
 {
@@ -121,23 +150,31 @@ fn reach_row(rows: &mut [bool], width: usize, left: usize, right: usize, row: us
     if !reaches {
         return;
     }
-    for column in 0..width {
-        let reached = reached_after(rows, width, left, right, row, column, reaches);
-        put(rows, width, row, column, reached);
+    for column in columns {
+        put(rows, width, row, *column, true);
     }
 }
 
 /// The same, if it is neither of the two.
-fn reach_other(rows: &mut [bool], width: usize, left: usize, right: usize, row: usize)
+fn reach_other(
+    rows: &mut [bool],
+    width: usize,
+    left: usize,
+    right: usize,
+    row: usize,
+    columns: &[usize],
+)
     requires left_in { left < width }
     requires right_in { right < width }
     requires row_in { row < width }
     requires size { length rows.old ≡ width * width }
+    requires below { All (λ y. y < width) columns.now }
+    requires those { (y : ℕ) → y < width → has columns.now y ≡ gains (flag rows.old width) left right y }
     ensures size { length rows.new ≡ width * width }
     ensures row { (x y : ℕ) → x < width → y < width → flag rows.new width x y ≡ cond (x == row && not (row == left || row == right)) (reach_after (λ k. k) (flag rows.old width) left right x y) (flag rows.old width x y) }
 {
     if row != left && row != right {
-        reach_row(rows, width, left, right, row);
+        reach_row(rows, width, left, right, row, columns);
     }
 }
 
@@ -158,16 +195,24 @@ fn reach_left(rows: &mut [bool], width: usize, left: usize, right: usize)
 }
 
 /// Which blocks reach which, once the second is part of the first. The second's own row is left as it was.
-pub(crate) fn reach_rows(rows: &mut [bool], width: usize, left: usize, right: usize)
+pub(crate) fn reach_rows(
+    alloc: Global,
+    rows: &mut [bool],
+    width: usize,
+    left: usize,
+    right: usize,
+) -> Result<(), NoMemory>
     requires left_in { left < width }
     requires right_in { right < width }
     requires apart { left ≢ right }
     requires size { length rows.old ≡ width * width }
     ensures size { length rows.new ≡ width * width }
-    ensures rows { (x y : ℕ) → x < width → y < width → x ≢ right → flag rows.new width x y ≡ reach_after (λ k. k) (flag rows.old width) left right x y }
+    ensures rows { IfOk result (λ done. (x y : ℕ) → x < width → y < width → x ≢ right → flag rows.new width x y ≡ reach_after (λ k. k) (flag rows.old width) left right x y) }
 {
+    let columns = gained(alloc, rows, width, left, right)?;
     for row in 0..width {
-        reach_other(rows, width, left, right, row);
+        reach_other(rows, width, left, right, row, columns.as_slice());
     }
     reach_left(rows, width, left, right);
+    Ok(())
 }

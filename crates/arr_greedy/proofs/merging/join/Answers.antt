@@ -1,10 +1,8 @@
 use Rattle.std.proofs.Common.{◌≡◌, ◌<◌, ◌∙◌, [], ℕ, List, length, map, set, ap, ap₂, sym, subst, arith}
 use Rattle.std.proofs.lemmas.List.{length-map, map-set}
 use Rattle.std.proofs.lemmas.List.Elements.{All-set}
-use Rattle.std.specs.List.{All}
 use Rattle.arr_ops.specs.Plans.{numbered}
 use Rattle.arr_heur.specs.Planners.{union}
-use Rattle.arr_greedy.specs.declared.merging.Block.{Block}
 use Rattle.arr_greedy.specs.Blocks.{live, row_at, Keyed}
 use Rattle.arr_greedy.proofs.KeyedBlocks.{Joined, joined_rows}
 use Rattle.arr_greedy.proofs.Printed.{numbers_in, Printed}

@@ -1,4 +1,4 @@
-use Rattle.std.proofs.Common.{◌≡◌, ◌∙◌, ◌++◌, ℕ, List, map, get_or, ap, ap₂, sym, subst}
+use Rattle.std.proofs.Common.{◌≡◌, ◌∙◌, List, get_or, ap₂}
 use Rattle.arr_ops.specs.Plans.{numbered}
 use Rattle.arr_ops.specs.declared.op.Op.{Op}
 use Rattle.arr_heur.specs.Planners.{union}

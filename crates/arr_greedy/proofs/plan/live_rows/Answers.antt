@@ -1,4 +1,4 @@
-use Rattle.std.proofs.Common.{◌∙◌, ◌++◌, ◌∷◌, [], ℕ, List, cond, take, map, ap, ap₂, sym}
+use Rattle.std.proofs.Common.{◌∙◌, ◌++◌, ◌∷◌, [], cond, take, map, ap, ap₂, sym}
 use Rattle.std.proofs.lemmas.List.{take_more}
 use Rattle.arr_ops.specs.Plans.{not_empty}
 use Rattle.arr_heur.proofs.Stretches.{items_end}
