@@ -1,19 +1,18 @@
 -- Certificates are read back, and a proof is read in one way.
-use Rattle.std.proofs.Common.{◌≡◌, ℕ, suc, ◌+◌, ◌-◌, ◌^◌, ◌<◌, ◌≤◌, inl, inr, List, [], ◌∷◌, ◌++◌, length, drop, true, not, ◌&&◌, refl, sym, ap, ap₂, ◌∙◌, subst, arith, length-append, codes, decimal}
-use Rattle.std.specs.Prelude.{nat_lt, nat_le}
+use Rattle.std.proofs.Common.{◌≡◌, ℕ, suc, ◌-◌, ◌^◌, ◌≤◌, inl, inr, List, [], ◌∷◌, ◌++◌, length, drop, true, ◌&&◌, refl, sym, ap, ap₂, ◌∙◌, subst, arith, length-append, decimal}
+use Rattle.std.specs.Prelude.{nat_lt}
 use Rattle.std.specs.List.{flat_map, list_all}
 use Rattle.std.proofs.lemmas.Bool.{and_parts, and_from, ltb-true, leb-true}
-use Rattle.arr_law.specs.declared.certificate.Certificate.{Certificate}
 use Rattle.arr_law.specs.declared.charge.Charge.{Charge}
 use Rattle.arr_law.specs.declared.record.Record.{Record}
 use Rattle.arr_law.specs.declared.record.Record.TheVariants.{Flush, Plan, Cost, Bound, Step, Branch, Dead, Worth, End}
-use Rattle.arr_law.specs.Verdict.{Reading, Reads, reading_of, records_of, is_tree_record}
-use Rattle.arr_cert.specs.Texts.{behind, spaced, first_text, group_text, version_numbers, third_numbers, record_text, line_text, is_spelled, is_short, is_group_spelled}
+use Rattle.arr_law.specs.Verdict.{Reads, reading_of, records_of, is_tree_record}
+use Rattle.arr_cert.specs.Texts.{behind, first_text, group_text, version_numbers, third_numbers, record_text, line_text, is_spelled, is_short}
 use Rattle.arr_cert.specs.Laws.{numbers_of, is_plain}
-use Rattle.arr_cert.specs.Spelling.{IsText, Spells, is_sized}
-use Rattle.arr_cert.specs.Reading.{Marked, Nothing, Beyond, Has, IsRead, is_marked, lines, marked}
+use Rattle.arr_cert.specs.Spelling.{IsText, is_sized}
+use Rattle.arr_cert.specs.Reading.{Nothing, Beyond, Has, IsRead, is_marked, lines, marked}
 use Rattle.arr_cert.specs.Back.{ReadOnce, TextsReadBack}
-use Rattle.arr_cert.specs.Proofs.{is_open, part}
+use Rattle.arr_cert.specs.Proofs.{is_open}
 use Rattle.arr_cert.proofs.Differ.{Small, line_back, small_join}
 use Rattle.arr_cert.proofs.Joined.{free_join}
 use Rattle.arr_cert.proofs.Numbers.{decimal_free}

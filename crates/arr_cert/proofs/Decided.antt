@@ -9,14 +9,12 @@ use Rattle.std.proofs.lemmas.Fmt.{decimal_is_IsNumeral}
 use Rattle.std.proofs.lemmas.List.{append-nil, take-append-drop}
 use Rattle.std.proofs.lemmas.Slice.Eq.{bytes_eq-Decides}
 use Rattle.std.proofs.Math.Seq.{take-append_seam}
-use Rattle.arr_law.specs.declared.charge.Charge.{Charge}
-use Rattle.arr_law.specs.declared.record.Record.{Record}
 use Rattle.arr_law.specs.declared.record.Record.TheVariants.{Flush, Plan, Cost, Bound, Step, Branch, Dead, Worth, End}
 use Rattle.arr_law.specs.Verdict.{Reading, Ends, Stops, Reads}
 use Rattle.arr_law.specs.declared.reject.Reject.TheVariants.{TooLong, Malformed}
 use Rattle.arr_cert.specs.Texts.{spaced, takes_two}
 use Rattle.arr_cert.specs.Spelling.{IsText, Spells}
-use Rattle.arr_cert.specs.Reading.{IsRead, Marked, Nothing, Beyond, Has, SpellsNone}
+use Rattle.arr_cert.specs.Reading.{IsRead, Nothing, Beyond, Has}
 use Rattle.arr_cert.specs.Back.{ReadAlways}
 use Rattle.arr_cert.specs.Spelled.{DecimalOf, GroupOf, GroupsOf, NumberOf, NumbersOf, are_narrow, is_sign}
 use Rattle.arr_cert.proofs.Joined.{IsJoined, Listed, is_free, listed_all, listed_more, listed_none, none_part, none_sign}

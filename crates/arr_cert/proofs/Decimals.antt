@@ -1,5 +1,5 @@
 -- Numbers from their decimals, digit by digit.
-use Rattle.std.proofs.Common.{◌≡◌, ℕ, zero, suc, ◌+◌, ◌-◌, ◌*◌, ◌/◌, ◌%◌, ◌^◌, ◌<◌, ◌≤◌, List, [], ◌∷◌, ◌++◌, length, get_or, take, drop, refl, sym, ap, ◌∙◌, subst, arith, decimal}
+use Rattle.std.proofs.Common.{◌≡◌, ℕ, zero, suc, ◌+◌, ◌-◌, ◌*◌, ◌%◌, ◌^◌, ◌<◌, ◌≤◌, List, [], ◌∷◌, ◌++◌, length, get_or, take, drop, refl, sym, ap, ◌∙◌, subst, arith, decimal}
 use Rattle.std.specs.Char.{digit_value}
 use Rattle.std.specs.Int.{IsInRange, IsOutOfRange}
 use Rattle.std.specs.Str.Parse.{AllDigits, digits_value, digits_value_after}

@@ -1,13 +1,13 @@
 -- The groups of a leaf.
-use Rattle.std.proofs.Common.{◌≡◌, ◌≢◌, ℕ, zero, suc, ◌+◌, ◌-◌, ◌^◌, ◌<◌, ◌≤◌, List, [], ◌∷◌, ◌++◌, length, get_or, take, drop, true, false, not, ◌&&◌, refl, sym, ap, ◌∙◌, subst, arith, append_assoc, length-append, decimal}
-use Rattle.std.specs.Prelude.{◌==◌, nat_lt, nat_le}
+use Rattle.std.proofs.Common.{◌≡◌, ◌≢◌, ℕ, suc, ◌+◌, ◌-◌, ◌^◌, ◌<◌, ◌≤◌, List, [], ◌∷◌, ◌++◌, length, get_or, take, drop, true, not, refl, sym, ap, ◌∙◌, subst, arith, append_assoc, length-append, decimal}
+use Rattle.std.specs.Prelude.{nat_lt, nat_le}
 use Rattle.std.specs.List.{flat_map, list_all, before_first, after_first, position_or_len, prefix_len}
 use Rattle.std.proofs.lemmas.Bool.{and_parts, and_from, ltb-true, lt-ltb, leb-true, le-leb, eqb-true}
 use Rattle.std.proofs.lemmas.List.{drop-drop, take-append-drop}
 use Rattle.std.proofs.lemmas.List.Folds.{length-prefix_len}
 use Rattle.std.proofs.lemmas.List.Sums.{split_at_first, passes_at_first, prefix_len-le-length}
 use Rattle.arr_law.specs.declared.charge.Charge.{Charge}
-use Rattle.arr_cert.specs.Texts.{behind, first_text, group_text, is_group_spelled}
+use Rattle.arr_cert.specs.Texts.{behind, group_text, is_group_spelled}
 use Rattle.arr_cert.specs.Spelled.{DecimalOf, GroupOf, GroupsOf, NumbersOf, are_narrow, is_sign}
 use Rattle.arr_cert.proofs.Joined.{Cuts, Each, IsJoined, Listed, before_cut, drop_front, free_join, is_free, joined, listed_all, listed_more, none_part, none_sign}
 use Rattle.arr_cert.proofs.Numbers.{decimal_free}

@@ -1,15 +1,15 @@
 -- Numbers in decimal, each behind a sign.
-use Rattle.std.proofs.Common.{◌≡◌, ◌≢◌, ℕ, suc, ◌+◌, ◌-◌, ◌^◌, ◌<◌, ◌≤◌, List, [], ◌∷◌, ◌++◌, length, get_or, take, drop, true, not, ◌&&◌, refl, sym, ap, ◌∙◌, subst, arith, decimal}
-use Rattle.std.specs.Prelude.{◌==◌, nat_lt}
+use Rattle.std.proofs.Common.{◌≡◌, ◌≢◌, ℕ, ◌+◌, ◌-◌, ◌^◌, ◌<◌, ◌≤◌, List, [], ◌∷◌, ◌++◌, length, get_or, take, drop, true, not, ◌&&◌, refl, ap, ◌∙◌, arith, decimal}
+use Rattle.std.specs.Prelude.{nat_lt}
 use Rattle.std.specs.Char.{digit_value}
-use Rattle.std.specs.List.{list_all, before_first, prefix_len}
+use Rattle.std.specs.List.{before_first}
 use Rattle.std.specs.Str.Parse.{AllDigits}
 use Rattle.std.proofs.lemmas.Bool.{and_parts, and_from, ltb-true, lt-ltb, ne_eqb}
 use Rattle.std.proofs.lemmas.Fmt.{decimal_is_IsNumeral}
 use Rattle.std.proofs.lemmas.List.{take_all, length-drop}
 use Rattle.std.proofs.lemmas.List.Folds.{length-prefix_len}
 use Rattle.arr_cert.specs.Spelled.{DecimalOf, NumbersOf, are_narrow, is_sign}
-use Rattle.arr_cert.proofs.Joined.{Each, IsJoined, Listed, is_free, none_sign, none_part, listed_none, listed_more, listed_all}
+use Rattle.arr_cert.proofs.Joined.{Each, IsJoined, Listed, is_free, none_sign, none_part, listed_more, listed_all}
 
 abbrev pub Narrow : ℕ → Type 0
 Narrow n = n < 2 ^ 32

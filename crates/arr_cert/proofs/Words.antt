@@ -1,12 +1,12 @@
 -- Which record a line is, by its first word.
-use Rattle.std.proofs.Common.{◌≡◌, ◌≢◌, ℕ, suc, ◌+◌, ◌^◌, ◌<◌, ◌≤◌, List, [], ◌∷◌, ◌++◌, length, get_or, take, drop, Bool, true, false, cond, not, ◌&&◌, ◌||◌, refl, sym, ap, ◌∙◌, subst, arith, codes, decimal}
+use Rattle.std.proofs.Common.{◌≡◌, ◌≢◌, ℕ, suc, ◌^◌, ◌<◌, ◌≤◌, List, [], ◌∷◌, ◌++◌, length, get_or, drop, Bool, true, false, cond, not, ◌&&◌, ◌||◌, refl, sym, ap, ◌∙◌, subst, arith, codes}
 use Rattle.std.specs.Prelude.{◌==◌, nat_lt, nat_le}
-use Rattle.std.specs.List.{flat_map, list_all}
-use Rattle.std.proofs.lemmas.Bool.{and_parts, and_from, ltb-true, lt-ltb, leb-true, eqb-true, eqb-false}
+use Rattle.std.specs.List.{list_all}
+use Rattle.std.proofs.lemmas.Bool.{and_parts, and_from, ltb-true, lt-ltb, eqb-true, eqb-false}
 use Rattle.arr_law.specs.declared.charge.Charge.{Charge}
 use Rattle.arr_law.specs.declared.record.Record.{Record}
 use Rattle.arr_law.specs.declared.record.Record.TheVariants.{Flush, Plan, Cost, Bound, Step, Branch, Dead, Worth, End}
-use Rattle.arr_cert.specs.Texts.{spaced, group_text, is_group_spelled, version_numbers, takes_two, third_numbers}
+use Rattle.arr_cert.specs.Texts.{spaced, version_numbers, takes_two, third_numbers}
 use Rattle.arr_cert.specs.Spelling.{IsText}
 use Rattle.arr_cert.specs.Spelled.{NumberOf, NumbersOf, GroupsOf, are_narrow}
 use Rattle.arr_cert.proofs.Differ.{Small, ends_back}

@@ -7,3 +7,4 @@ pub mod Spelled
 pub mod Unread
 pub mod Proofs
 pub mod Back
+pub mod Examples

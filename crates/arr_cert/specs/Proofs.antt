@@ -1,5 +1,5 @@
 -- What a contract sees of a reader of proofs.
-use Rattle.std.specs.Prelude.{ℕ, suc, ◌≡◌, ◌≤◌, ◌<◌, ◌-◌, ◌++◌, Bool, true, false, not, List, [], ◌∷◌, length, take, Option, None, Some, Result, Ok, Err, IsTrue}
+use Rattle.std.specs.Prelude.{ℕ, suc, ◌≡◌, ◌≤◌, ◌<◌, ◌-◌, ◌++◌, Bool, true, false, not, List, [], ◌∷◌, length, take, Option, None, Some, Result, Ok, Err}
 use Rattle.std.specs.List.{list_all}
 use Rattle.std.specs.Io.KnownBytes.{Consumes, IsAtEnd}
 use Rattle.arr_io.specs.declared.source.Source.{Ghosts}
@@ -19,6 +19,14 @@ unread g reader source = record { bytes = coming g reader.pieces source; line = 
 -- the number of the line of the last item
 abbrev pub last_line : Reader → ℕ
 last_line reader = reader.line
+
+-- the number of the line at which what is unread begins
+abbrev pub next_line : Reader → ℕ
+next_line reader = reader.next_line
+
+-- the item is the first that the unread bytes give, at the last line
+abbrev pub Gives : {S : Type 0} → Ghosts S → Reader → Reader → S → S → Item → Type 0
+Gives g old new before after item = Told (unread g old before) (unread g new after) (IsFirst item (last_line new))
 
 -- how many bytes were read and not used
 abbrev pub ahead : Reader → ℕ

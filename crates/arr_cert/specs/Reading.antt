@@ -1,5 +1,5 @@
 -- What a proof is read as: its lines, the records among them, and how they end.
-use Rattle.std.specs.Prelude.{ℕ, suc, ◌≡◌, ◌-◌, ◌==◌, ◌++◌, ◌⊎◌, Bool, cond, nat_lt, slice_index, List, [], ◌∷◌, length, Option, None, Some, ⊤}
+use Rattle.std.specs.Prelude.{ℕ, suc, ◌≡◌, ◌-◌, ◌==◌, ◌⊎◌, Bool, cond, nat_lt, slice_index, List, [], ◌∷◌, length, Option, None, Some, ⊤}
 use Rattle.std.specs.List.{before_first}
 use Rattle.arr_law.specs.declared.record.Record.{Record}
 use Rattle.arr_law.specs.declared.reject.Reject.TheVariants.{TooLong, Malformed}

@@ -2,9 +2,7 @@
 use Rattle.std.specs.Prelude.{ℕ, ◌≡◌, ◌≤◌, ◌<◌, ◌^◌, ◌==◌, Bool, true, nat_lt, List, [], ◌∷◌, Option, MatchOption, decimal}
 use Rattle.std.specs.List.{flat_map, list_all}
 use Rattle.arr_law.specs.declared.charge.Charge.{Charge}
-use Rattle.arr_law.specs.declared.record.Record.{Record}
 use Rattle.arr_cert.specs.Texts.{behind, spaced, group_text, is_group_spelled}
-use Rattle.arr_cert.specs.Spelling.{IsText}
 
 -- the one thing that has a property, or nothing where nothing has it
 abbrev pub Is : {X : Type 0} → (X → Type 0) → Option X → Type 0

@@ -6,8 +6,9 @@
 //! certificate is read as its records (`texts_read_back`). The records are those of arr_law.
 //!
 //! The definitions, in `specs/`: `Texts` (how records and certificates are written, and which may be), `Spelling` (which record a line
-//! spells), `Reading` (lines, and what they are read as), `Unread` and `Proofs` (what a contract sees of a reader), `Laws`, `Back`; `Wrote`
-//! and `Spelled`, which private calls speak of. `docs/CERTIFICATES.md` states the text and its reading in words.
+//! spells), `Reading` (lines, and what they are read as), `Examples`, computed, `Unread` and `Proofs` (what a contract sees of a
+//! reader), `Laws`, `Back`; `Wrote` and `Spelled`, which private calls speak of. `docs/CERTIFICATES.md` states the text and its reading in
+//! words.
 #![tactic(auto)]
 
 mod item;

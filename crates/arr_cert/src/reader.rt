@@ -17,7 +17,7 @@ const MOST: u64 = 67_108_864;
 const LINE: usize = 65_536;
 
 /// What was found where a line was looked for.
-#[derive(Clone, Copy, Debug, PartialEq, Eq)]
+#[derive(Clone, Copy, Debug)]
 pub(crate) enum Found {
     /// No byte is left.
     Nothing,
@@ -69,9 +69,9 @@ fn is_record(text: &[u8]) -> bool
 }
 
 impl Reader {
-    ghost use Rattle.arr_cert.specs.Reading.{IsBehind, IsFirst, Told};
+    ghost use Rattle.arr_cert.specs.Reading.{IsBehind};
     ghost use Rattle.arr_cert.specs.Unread.{waiting};
-    ghost use Rattle.arr_cert.specs.Proofs.{Finds, IsFresh, IsPart, IsSame, IsSpelled, HasMetEnd, Turns, ahead, is_over, last_line, stops, unread};
+    ghost use Rattle.arr_cert.specs.Proofs.{Finds, Gives, HasMetEnd, IsFresh, IsPart, IsSame, IsSpelled, Turns, ahead, is_over, last_line, next_line, stops, unread};
 
     /// A reader at the beginning of a proof. Want of memory is its one refusal.
     pub fn new(alloc: Global) -> Result<Reader, NoMemory>
@@ -219,8 +219,8 @@ impl Reader {
     /// have nothing left.
     pub fn next<S: Source>(&mut self, alloc: Global, source: &mut S) -> Result<Item, CheckFault>
         requires met { HasMetEnd S.Source self.old source.old }
-        ensures item { is_over self.old ≡ false → IfOk result (λ item. Told (unread S.Source self.old source.old) (unread S.Source self.new source.new) (IsFirst item (last_line self.new))) }
-        ensures behind { is_over self.old ≡ false → IfOk result (λ item. IsBehind item (last_line self.new) (unread S.Source self.new source.new).line) }
+        ensures item { is_over self.old ≡ false → IfOk result (Gives S.Source self.old self.new source.old source.new) }
+        ensures behind { is_over self.old ≡ false → IfOk result (λ item. IsBehind item (last_line self.new) (next_line self.new)) }
         ensures ahead { ahead self.new ≤ 65536 }
         ensures ended { is_over self.old ≡ true → result ≡ Ok Item.End }
         ensures over { is_over self.new ≡ (is_over self.old || stops result) }

@@ -1,4 +1,4 @@
-use Rattle.std.proofs.Common.{◌+◌, List, ap, sym, subst}
+use Rattle.std.proofs.Common.{◌+◌, ap, sym, subst}
 use Rattle.arr_law.specs.declared.charge.Charge.{Charge}
 use Rattle.arr_cert.specs.Spelled.{GroupOf}
 use Rattle.arr_cert.proofs.Joined.{Listed}

@@ -1,4 +1,4 @@
-use Rattle.std.proofs.Common.{◌≡◌, ◌≤◌, ◌-◌}
+use Rattle.std.proofs.Common.{◌≤◌, ◌-◌}
 use Rattle.arr_cert.specs.Unread.{coming}
 use Rattle.arr_cert.specs.Proofs.{HasMetEnd, IsSame}
 use Rattle.arr_cert.proofs.Looking.{Looking}

@@ -1,4 +1,4 @@
-use Rattle.std.proofs.Common.{◌≡◌, ◌≤◌, false}
+use Rattle.std.proofs.Common.{◌≡◌, ◌≤◌}
 use Rattle.arr_cert.specs.Reading.{Told}
 use Rattle.arr_cert.specs.Proofs.{HasMetEnd, unread}
 use Rattle.arr_cert.proofs.reader.Reader.next.Given as goal

@@ -1,4 +1,4 @@
-use Rattle.std.proofs.Common.{List, ℕ, subst, arith}
+use Rattle.std.proofs.Common.{subst, arith}
 use Rattle.arr_law.specs.declared.record.Record.{Record}
 use Rattle.arr_cert.specs.Spelling.{IsText}
 use Rattle.arr_cert.proofs.Passing.{spelled_long, spelled_none}

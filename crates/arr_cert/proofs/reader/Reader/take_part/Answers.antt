@@ -1,4 +1,4 @@
-use Rattle.std.proofs.Common.{◌≡◌, ◌<◌, ◌≤◌, length, rules}
+use Rattle.std.proofs.Common.{◌<◌, ◌≤◌, length, rules}
 use Rattle.arr_cert.specs.Unread.{waiting}
 use Rattle.arr_cert.proofs.Looking.{part_ends, part_open}
 use Rattle.arr_cert.proofs.reader.Reader.take_part.Goals as goal

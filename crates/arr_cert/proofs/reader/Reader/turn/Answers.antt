@@ -1,4 +1,4 @@
-use Rattle.std.proofs.Common.{◌≡◌, false, true, sym, ap, ◌∙◌}
+use Rattle.std.proofs.Common.{sym, ap, ◌∙◌}
 use Rattle.arr_cert.specs.Reading.{is_marked}
 use Rattle.arr_cert.specs.Proofs.{last_line, unread}
 use Rattle.arr_cert.proofs.Passing.{answers, behind_item, passes, too_long}
