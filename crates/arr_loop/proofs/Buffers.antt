@@ -37,7 +37,7 @@ pub any_at : {X : Type 0} (p : X → Bool) (front back : List X) (x : X) → p x
 any_at p [] back x h = ap (λ b. b || list_any p back) h
 any_at p (y ∷ front) back x h = elim (p y) as (λ b. (b || list_any p (front ++ x ∷ back)) ≡ true) [ true ↦ refl | false ↦ any_at p front back x h ]
 
-filter_append : {X : Type 0} (p : X → Bool) (xs ys : List X) → filter p (xs ++ ys) ≡ filter p xs ++ filter p ys
+pub filter_append : {X : Type 0} (p : X → Bool) (xs ys : List X) → filter p (xs ++ ys) ≡ filter p xs ++ filter p ys
 filter_append p [] ys = refl
 filter_append p (x ∷ xs) ys =
     elim (p x) as (λ b. cond b (x ∷ filter p (xs ++ ys)) (filter p (xs ++ ys)) ≡ cond b (x ∷ filter p xs) (filter p xs) ++ filter p ys) [
@@ -89,6 +89,9 @@ created_has : (ops : List Op) (b : ℕ) → has (created ops) b ≡ creates ops 
 created_has [] b = refl
 created_has (op ∷ ops) b =
     list_any-append (nat_eq b) (made_by op) (created ops) ∙ ap₂ (λ x y. x || y) (made_has op.makes op.out b) (created_has ops b)
+
+pub contracted_when : (ops : List Op) (b : ℕ) → has (contracted ops) b ≡ (freed_by ops b && creates ops b)
+contracted_when ops b = filter_has (freed_by ops) (created ops) b ∙ ap (λ z. freed_by ops b && z) (created_has ops b)
 
 pub contracted_is : (ops : List Op) (b : ℕ) → creates ops b ≡ true → has (contracted ops) b ≡ freed_by ops b
 contracted_is ops b h = filter_has (freed_by ops) (created ops) b ∙ ap (λ z. freed_by ops b && z) (created_has ops b ∙ h) ∙ and_true (freed_by ops b)
@@ -156,7 +159,7 @@ kept_more front back op =
 
 -- ---- the base that an operation creates is not there
 
-makes_named : (f : Op) (b : ℕ) → makes_base f b ≡ true → has (named f) b ≡ true
+pub makes_named : (f : Op) (b : ℕ) → makes_base f b ≡ true → has (named f) b ≡ true
 makes_named f b h =
     any_all (λ (o : Strided). o.base == b) (λ (o : Strided). has (named f) o.base ≡ true) (outputs f) (both_right f.makes _ h)
     (all_left (λ (o : Strided). has (named f) o.base ≡ true) (outputs f) (inputs f) (names_views f))

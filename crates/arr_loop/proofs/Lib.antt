@@ -1,3 +1,4 @@
 pub mod Shares
 pub mod Buffers
 pub mod Lone
+pub mod Made

@@ -1,10 +1,12 @@
 -- A block with a serial operation: that operation, and FREEs.
 use Rattle.std.proofs.Common.{◌≡◌, ℕ, List, [], ◌∷◌, ◌++◌, Bool, true, false, cond, not, ◌||◌, ◌&&◌, Option, Some, None, refl, ap, ap₂, sym, subst, ◌∙◌}
 use Rattle.std.specs.Prelude.{◌==◌, is_some}
-use Rattle.std.specs.List.{AllByRecursion, find, list_all, list_any}
+use Rattle.std.specs.List.{AllByRecursion, filter, find, flat_map, list_all, list_any}
 use Rattle.std.specs.Option.{option_to_list}
 use Rattle.std.proofs.lemmas.Bool.{eq-eqb, eqb-true, false≢true}
+use Rattle.std.proofs.lemmas.List.{append-nil}
 use Rattle.std.proofs.lemmas.List.Folds.{list_any-append}
+use Rattle.arr_ops.specs.Costs.{distinct, reads, writes}
 use Rattle.arr_num.specs.declared.code.Code.{Code}
 use Rattle.arr_num.specs.declared.code.Code.TheVariants.{Range}
 use Rattle.arr_num.specs.Kinds.{is_reduction}
@@ -297,6 +299,42 @@ slots_lone ops op l m =
     (all_joined (λ (f : Op). f.slot ≡ None) l.front (op ∷ l.back) (All_weaker Freeing (λ (f : Op). f.slot ≡ None) (λ f r. r.no_slot) l.front l.before)
     (serial_slot op l.well l.serial_is, All_weaker Freeing (λ (f : Op). f.slot ≡ None) (λ f r. r.no_slot) l.back l.behind))) m
 
+-- ---- what it reads and writes
+
+flat_free : (F : Op → List Strided) (fs : List Op) → AllByRecursion (λ f. F f ≡ []) fs → flat_map F fs ≡ []
+flat_free F [] h = refl
+flat_free F (f ∷ fs) h = ap₂ (λ xs ys. xs ++ ys) h.0 (flat_free F fs h.1)
+
+flat_lone : (F : Op → List Strided) (front back : List Op) (op : Op) → AllByRecursion (λ f. F f ≡ []) front → AllByRecursion (λ f. F f ≡ []) back → flat_map F (front ++ op ∷ back) ≡ F op
+flat_lone F [] back op h k = ap (λ ys. F op ++ ys) (flat_free F back k) ∙ append-nil (F op)
+flat_lone F (f ∷ front) back op h k = ap (λ xs. xs ++ flat_map F (front ++ op ∷ back)) h.0 ∙ flat_lone F front back op h.1 k
+
+filter_all : (p : Strided → Bool) (vs : List Strided) → ((v : Strided) → p v ≡ true) → filter p vs ≡ vs
+filter_all p [] h = refl
+filter_all p (v ∷ vs) h = ap₂ (λ b r. cond b (v ∷ r) r) (h v) (filter_all p vs h)
+
+one_distinct : (p : Strided → Bool) (x : Option Strided) → distinct identical (filter p (option_to_list x)) ≡ filter p (option_to_list x)
+one_distinct p None = refl
+one_distinct p (Some o) = elim (p o) as (λ b. distinct identical (cond b (o ∷ []) []) ≡ cond b (o ∷ []) []) [ true ↦ refl | false ↦ refl ]
+
+reads_lone : (ops : List Op) (op : Op) → Lone ops op → reads ops ≡ distinct identical (inputs op)
+reads_lone ops op l =
+    let q : Strided → Bool = λ (v : Strided). not (creates ops v.base) in
+    let F : Op → List Strided = λ (f : Op). filter q (inputs f) in
+    let none : (f : Op) → Freeing f → F f ≡ [] = λ f r. ap₂ (λ a b. filter q (view_of a ++ view_of b)) r.no_first r.no_second in
+    ap (λ vs. distinct identical vs)
+    (ap (flat_map F) l.is ∙ flat_lone F l.front l.back op (All_weaker Freeing (λ f. F f ≡ []) none l.front l.before) (All_weaker Freeing (λ f. F f ≡ []) none l.back l.behind)
+    ∙ filter_all q (inputs op) (λ v. ap not (creates_none ops op l v.base)))
+
+writes_lone : (ops : List Op) (op : Op) → Lone ops op → writes ops ≡ filter (λ (v : Strided). not (freed_by ops v.base)) (outputs op)
+writes_lone ops op l =
+    let q : Strided → Bool = λ (v : Strided). not (freed_by ops v.base) in
+    let F : Op → List Strided = λ (f : Op). filter q (outputs f) in
+    let none : (f : Op) → Freeing f → F f ≡ [] = λ f r. ap (λ x. filter q (option_to_list x)) r.no_out in
+    ap (λ vs. distinct identical vs)
+    (ap (flat_map F) l.is ∙ flat_lone F l.front l.back op (All_weaker Freeing (λ f. F f ≡ []) none l.front l.before) (All_weaker Freeing (λ f. F f ≡ []) none l.back l.behind))
+    ∙ one_distinct q op.out
+
 -- ---- the law
 
 pub serial_blocks : SerialBlocks
@@ -304,17 +342,17 @@ serial_blocks ops share h =
     let r : (one : Op) × Lone ops one = lone ops (all_of well_formed ops (all_well ops share)) (pairs_of fusible ops (all_fusible ops share)) h in
     let l : Lone ops r.0 = r.1 in (
       r.0,
-      (
-        record {
-          front = l.front;
-          back = l.back;
-          is = l.is;
-          before = l.free_before;
-          behind = l.free_behind;
-          serial_is = l.serial_is;
-        },
-        creates_none ops r.0 l,
-        λ m. eager_lone ops r.0 l (in_turn ops share) m,
-        λ m. sym (slots_lone ops r.0 l m),
-      ),
+      record {
+        front = l.front;
+        back = l.back;
+        is = l.is;
+        before = l.free_before;
+        behind = l.free_behind;
+        serial_is = l.serial_is;
+        creates_none = creates_none ops r.0 l;
+        reads_are = reads_lone ops r.0 l;
+        writes_are = writes_lone ops r.0 l;
+        bases = eager_lone ops r.0 l (in_turn ops share);
+        slots = λ m. sym (slots_lone ops r.0 l m);
+      },
     )

@@ -4,16 +4,17 @@
 //!
 //! The promise: `open` makes exactly the buffers of the bases that the block creates and does not free, and nothing else changes; where it is
 //! refused, some first of them may stand. `serial_blocks` is the law of blocks with a serial operation: that operation stands among FREEs
-//! alone, and decides what the block leaves.
+//! alone, and decides what the block reads, writes and leaves. `buffers_made` is the law that the blocks of a plan make one buffer for each base that
+//! none of them contracts.
 //!
-//! The definitions: `specs/Opened.antt` has what opening leaves (`OpenedFor`), `specs/Laws.antt` the law; the operations of a block are
+//! The definitions: `specs/Opened.antt` has what opening leaves (`OpenedFor`), `specs/Laws.antt` the laws; the operations of a block are
 //! those of arr_contract, and what they do is `eager` of arr_ops (docs/PLANS.md, "Running a block").
 #![tactic(auto)]
 
 mod laws;
 mod opening;
 
-pub use laws::serial_blocks;
+pub use laws::{buffers_made, serial_blocks};
 pub use opening::open;
 
 /// Want of memory.
