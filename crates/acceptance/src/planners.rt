@@ -6,7 +6,6 @@ use arr_deps::Graph;
 use arr_greedy::greedy;
 use arr_heur::linear;
 use arr_io::SureSource;
-use arr_lanes::Spares;
 use arr_law::{Certificate, Charge, Charges, OpList, Places, Record, Records};
 use arr_num::{Code, Elem};
 use arr_ops::{Op, Operand, list_formed};
@@ -62,7 +61,7 @@ fn blocks_are_priced(rt: HostRuntime) -> Result<(), Fail> {
 }
 
 #[test]
-fn sets_and_spares_are_made(rt: HostRuntime) -> Result<(), Fail> {
+fn sets_of_operations_are_made(rt: HostRuntime) -> Result<(), Fail> {
     let alloc = rt.alloc();
     let mut numbers = OpSet::new(alloc, 200)?;
     numbers.insert(200);
@@ -70,7 +69,6 @@ fn sets_and_spares_are_made(rt: HostRuntime) -> Result<(), Fail> {
     let mut pairs = Rows::new(alloc, 9)?;
     pairs.set(9, 1);
     assert!(rt; pairs.has(9, 1) && !pairs.has(1, 9));
-    drop(Spares::new(alloc, 256)?);
     Ok(())
 }
 
