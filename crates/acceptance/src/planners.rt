@@ -75,7 +75,9 @@ fn sets_of_operations_are_made(rt: HostRuntime) -> Result<(), Fail> {
 #[test]
 fn a_proof_is_read(rt: HostRuntime) -> Result<(), Fail> {
     let alloc = rt.alloc();
-    let mut proof = SureSource { bytes: b"!cost 8\n" };
+    let mut proof = SureSource {
+        bytes: b"!cost 8\n",
+    };
     let mut reader = Reader::new(alloc)?;
     let read = reader.next(alloc, &mut proof)?;
     assert!(rt; matches!(read, Item::Record(Record::Cost(8))));

@@ -21,10 +21,44 @@ fn scripts_print_their_arrays(rt: HostRuntime) -> Result<(), Fail> {
     let ran = run(alloc, &["run"], SUM.as_bytes(), 0, 4096, 0)?;
     assert_eq!(rt; ran.status, 0);
     assert_eq!(rt; ran.written.as_slice(), b"i64 5\n0 2 4 6 8\n".as_slice());
-    let named = b"a = range(4) + 1\nscatter(a, a, a)\nb = gather(a, range(3) - 1)\nprint b\n";
-    let ran = run(alloc, &["run"], named, 0, 4096, 0)?;
-    assert_eq!(rt; ran.status, 0);
-    assert_eq!(rt; ran.written.as_slice(), b"i64 3\n3 4 1\n".as_slice());
+    Ok(())
+}
+
+#[test]
+fn gathers_and_scatters_run(rt: HostRuntime) -> Result<(), Fail> {
+    let alloc = rt.alloc();
+    let rows = [
+        (
+            "a = range(5) * 10\ni = range(3) - 1\nb = gather(a, i)\nprint b\n",
+            0,
+            "i64 3\n40 0 10\n",
+        ),
+        (
+            "a = range(4)\nscatter(a, range(3) * 0, range(3) + 7)\nprint a\n",
+            0,
+            "i64 4\n9 1 2 3\n",
+        ),
+        (
+            "a = range(4) + 1\nscatter(a, a, a)\nprint a\n",
+            0,
+            "i64 4\n4 1 2 3\n",
+        ),
+        (
+            "a = gather(3, range(2))\n",
+            1,
+            "refused 1:12 TypeMismatch\n",
+        ),
+        (
+            "a = range(4)\nscatter(a, range(2), range(3))\n",
+            1,
+            "refused 2:1 ShapeMismatch\n",
+        ),
+    ];
+    for (script, status, text) in rows {
+        let ran = run(alloc, &["run"], script.as_bytes(), 0, 4096, 0)?;
+        assert_eq!(rt; ran.status, status, "{script}");
+        assert_eq!(rt; ran.written.as_slice(), text.as_bytes(), "{script}");
+    }
     Ok(())
 }
 
