@@ -54,7 +54,7 @@ shared_at (x ∷ es) fs e =
     (λ h. record { at = x; here = ap (λ b. b || has es x) (eq-eqb x x refl); there = h })
     (λ h. let r = shared_at es fs h in record { at = r.at; here = ap (λ b. (r.at == x) || b) r.here ∙ or_right (r.at == x); there = r.there })
 
-at_shared : (es fs : List ℕ) (x : ℕ) → has es x ≡ true → has fs x ≡ true → share es fs ≡ true
+pub at_shared : (es fs : List ℕ) (x : ℕ) → has es x ≡ true → has fs x ≡ true → share es fs ≡ true
 at_shared [] fs x h t = absurd (false≢true h)
 at_shared (y ∷ es) fs x h t =
     or_cases (x == y) (has es x) _ h
@@ -194,25 +194,6 @@ marks_decide views marks i j row other known li lj law same e f =
     let v = view_at views i in
     let w = view_at views j in
     sym (ap₂ (λ x y. x && y) (eq-eqb v.base w.base same) (sym (marks_meet row other (elements v) (elements w) (known.each i li row e) (known.each j lj other f) (elements_below v law))))
-
--- a view's start is one of its elements
-start_among : (v : Strided) → is_view v ≡ true → has (elements v) v.start ≡ true
-unfolding elements
-start_among v law =
-    ap (λ zs. has (map to_place zs) v.start) (begins v.lengths v.strides (pos v.start) (lawful v law).lengths (same_rank v law))
-    ∙ ap (λ b. b || has (map to_place (after v.lengths v.strides (full v.lengths) (replicate (length v.lengths) (pos v.start)))) v.start) (eq-eqb v.start v.start refl)
-
-pub start_within : (v : Strided) → is_view v ≡ true → v.start < most_elements
-start_within v law = element_within (elements v) v.start (elements_below v law) (start_among v law)
-
--- views of one base of which one holds the start of the other
-pub start_decides : (views : List Strided) (marks : List (Option (List Bool))) (i j : ℕ) (row : List Bool) → AreMarks marks views → i < length views → is_view (view_at views j) ≡ true
-    → (view_at views i).base ≡ (view_at views j).base → get_or marks i None ≡ Some row → get_or row (view_at views j).start false ≡ true → overlap (view_at views i) (view_at views j) ≡ true
-start_decides views marks i j row known li law same e marked =
-    let v = view_at views i in
-    let w = view_at views j in
-    let held : has (elements v) w.start ≡ true = sym ((known.each i li row e).each w.start (start_within w law)) ∙ marked in
-    ap₂ (λ x y. x && y) (eq-eqb v.base w.base same) (at_shared (elements v) (elements w) w.start held (start_among w law))
 
 share_turned : (es fs : List ℕ) → share es fs ≡ share fs es
 share_turned es fs =

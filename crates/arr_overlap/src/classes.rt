@@ -1,12 +1,12 @@
 //! Classes of identical views, counted from 0 in the order of first sight.
-ghost use Rattle.std.specs.Prelude.{ℕ, ◌<◌, ◌≡◌, ◌≤◌, IfOk, OnOk, IsSome, None, length, map, position, get_or, take, true};
+ghost use Rattle.std.specs.Prelude.{ℕ, ◌<◌, ◌≡◌, ◌≤◌, IfOk, OnOk, IsSome, None, length, map, position, get_or, take};
 ghost use Rattle.arr_view.specs.Views.{identical, overlap};
 ghost use Rattle.arr_overlap.specs.Classes.{firsts, overlaps_among, view_at, AreMarks, AreOutlines};
 
 use crate::NoMemory;
 use crate::filters::{Outline, outline_of, told_apart};
 use crate::meeting::marked;
-use crate::pairs::steps_miss;
+use crate::pairs::told_by_steps;
 use arr_sets::Bits;
 use arr_view::View;
 use indexmap::IndexSet;
@@ -76,22 +76,7 @@ fn mark(
     Ok(())
 }
 
-/// Whether the view at a place has marks, and the start of the view at another place is among them; the views have one base.
-fn has_start(views: &[View], marks: &[Option<Bits>], at: usize, other: usize) -> bool
-    requires at { at < length views.now }
-    requires other { other < length views.now }
-    requires base { (view_at views.now at).base ≡ (view_at views.now other).base }
-    requires marked { AreMarks marks.now views.now }
-    ensures { result ≡ true → overlap (view_at views.now at) (view_at views.now other) ≡ true }
-{
-    match &marks[at] {
-        Some(row) => row.has(views[other].start()),
-        None => false,
-    }
-}
-
-/// Whether the views at two places overlap. Where the outlines don't tell, the elements of the first are marked; where the start of the
-/// other is not among them, and the strides don't tell either, those of the other too.
+/// Whether the views at two places overlap. Where neither their outlines nor their strides tell, the elements of both are marked.
 fn met(
     alloc: Global,
     views: &[View],
@@ -116,13 +101,10 @@ fn met(
     if told_apart(&outlines[at], &outlines[other]) {
         return Ok(false);
     }
+    if let Some(told) = told_by_steps(&views[at], &views[other]) {
+        return Ok(told);
+    }
     mark(alloc, views, marks, at)?;
-    if has_start(views, marks.as_slice(), at, other) {
-        return Ok(true);
-    }
-    if steps_miss(&views[at], &views[other]) {
-        return Ok(false);
-    }
     mark(alloc, views, marks, other)?;
     match (&marks[at], &marks[other]) {
         (Some(here), Some(there)) => Ok(here.meets(there)),

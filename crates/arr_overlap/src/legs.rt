@@ -28,7 +28,7 @@ pub(crate) fn reach(legs: &[Leg]) -> u64
 
 /// Whether steps along the legs lead from 0 to a target; `None` where it may take more tries than are allowed. Only as many steps of a
 /// leg are tried as leave what the others reach: few, where long steps come first.
-fn lead_to(legs: &[Leg], target: u64, tries: u64) -> Option<bool>
+pub(crate) fn lead_to(legs: &[Leg], target: u64, tries: u64) -> Option<bool>
     requires { AreLegs 8 legs.now }
     ensures reached { result ≡ Some true → LeadTo legs.now target }
     ensures missed { result ≡ Some false → LeadTo legs.now target → ⊥ }
