@@ -24,6 +24,7 @@ mod legs;
 mod meeting;
 mod pairs;
 mod strides;
+mod turns;
 
 pub use alike::identical;
 pub use classes::Classes;
