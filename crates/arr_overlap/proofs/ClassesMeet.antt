@@ -1,20 +1,17 @@
 -- Which classes overlap.
-use Rattle.std.proofs.Common.{◌≡◌, ℕ, zero, suc, ◌+◌, ◌<◌, ◌≤◌, List, [], ◌∷◌, ◌++◌, Bool, true, false, length, take, map, set, get_or, pos, replicate, refl, ap, ap₂, sym, subst, ◌∙◌, arith}
+use Rattle.std.proofs.Common.{◌≡◌, ℕ, zero, suc, ◌+◌, ◌<◌, ◌≤◌, List, [], ◌∷◌, ◌++◌, Bool, true, false, length, take, map, set, get_or, refl, ap, ap₂, sym, subst, ◌∙◌, arith}
 use Rattle.std.specs.Prelude.{◌&&◌, ◌||◌, ◌==◌, nat_lt, Option, Some, None}
 use Rattle.std.specs.List.{list_all}
 use Rattle.std.proofs.lemmas.Bool.{and_parts, and_from, eqb-true, eqb-false, eq-eqb, ltb-true, ltb-false, false≢true}
 use Rattle.std.proofs.lemmas.List.{get_or-take, length-take-le, get_or-set_same, get_or-set_other, length-set, length-append}
 use Rattle.arr_sets.specs.Bits.{meets}
 use Rattle.arr_view.specs.Strided.{Strided}
-use Rattle.arr_view.specs.Views.{elements, has, is_view, overlap, share, most_elements, to_place}
-use Rattle.arr_view.specs.Walks.{after}
+use Rattle.arr_view.specs.Views.{elements, has, is_view, overlap, share, most_elements}
 use Rattle.arr_overlap.specs.declared.filters.Outline.{Outline}
 use Rattle.arr_overlap.specs.Classes.{AreMarks, AreOutlines, overlaps_among, view_at}
 use Rattle.arr_overlap.specs.Filters.{IsOutline}
 use Rattle.arr_overlap.specs.Marks.{Marks}
-use Rattle.arr_view.proofs.Checks.{lawful, same_rank}
 use Rattle.arr_view.proofs.Known.{same_tests}
-use Rattle.arr_view.proofs.Walking.{begins, full}
 use Rattle.arr_overlap.proofs.Marking.{elements_below}
 
 -- ---- two rows of marks meet exactly where the lists share a number

@@ -1,5 +1,5 @@
 -- How many steps of one size leave a multiple of another size.
-use Rattle.std.proofs.Common.{◌≡◌, ℕ, zero, suc, ◌+◌, ◌-◌, ◌*◌, ◌/◌, ◌%◌, ◌<◌, ◌≤◌, List, [], ◌∷◌, length, get_or, ap, sym, ◌∙◌, subst, refl, arith}
+use Rattle.std.proofs.Common.{◌≡◌, ℕ, zero, suc, ◌+◌, ◌-◌, ◌*◌, ◌/◌, ◌%◌, ◌<◌, ◌≤◌, List, [], ◌∷◌, length, get_or, ap, sym, ◌∙◌, refl, arith}
 use Rattle.std.proofs.Math.Nat.{add-mul-mod_self_left, add-mul-mod_self_right, div-mul-le_self, mod-add-div, mod-add-div', mod-eq_of_lt, mod-le, mod-lt, mul-le-mul_right, zero-mul}
 use Rattle.std.proofs.lemmas.Nat.{mul-mod_second}
 use Rattle.arr_overlap.specs.Legs.{LeadTo}

@@ -1,4 +1,4 @@
-use Rattle.std.proofs.Common.{ℕ, ◌≤◌, ◌*◌, arith}
+use Rattle.std.proofs.Common.{◌≤◌, ◌*◌, arith}
 use Rattle.arr_overlap.specs.declared.legs.Leg.{Leg}
 use Rattle.arr_overlap.proofs.Counting.{steps_within, two_lead}
 use Rattle.arr_overlap.proofs.legs.lead_by_two.Goals as goal

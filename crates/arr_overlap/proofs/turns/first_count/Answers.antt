@@ -1,4 +1,4 @@
-use Rattle.std.proofs.Common.{ℕ, ◌≡◌, ◌≤◌, ◌+◌, ◌*◌, ◌-◌, ◌<◌, ◌/◌, ◌%◌, sym, ap, ◌∙◌, arith}
+use Rattle.std.proofs.Common.{ℕ, ◌≡◌, ◌≤◌, ◌+◌, ◌*◌, ◌-◌, ◌<◌, ◌/◌, ◌%◌, ap, ◌∙◌, arith}
 use Rattle.std.proofs.Math.Nat.{mul-div_cancel, mul-mod_left}
 use Rattle.arr_overlap.proofs.Counting.{first_after, period_some, turned}
 use Rattle.arr_overlap.proofs.turns.first_count.Goals as goal

@@ -1,4 +1,4 @@
-use Rattle.std.proofs.Common.{ℕ, ◌≤◌}
+use Rattle.std.proofs.Common.{◌≤◌}
 use Rattle.arr_overlap.proofs.turns.turns_of.Given as goal
 
 abbrev pub invariant-loop-rest : goal.invariant-loop-rest
