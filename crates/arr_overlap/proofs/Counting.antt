@@ -1,6 +1,6 @@
 -- How many steps of one size leave a multiple of another size.
-use Rattle.std.proofs.Common.{◌≡◌, ℕ, zero, suc, ◌+◌, ◌-◌, ◌*◌, ◌/◌, ◌%◌, ◌<◌, ◌≤◌, List, [], ◌∷◌, length, get_or, ap, sym, ◌∙◌, refl, arith}
-use Rattle.std.proofs.Math.Nat.{add-mul-mod_self_left, add-mul-mod_self_right, div-mul-le_self, mod-add-div, mod-add-div', mod-eq_of_lt, mod-le, mod-lt, mul-le-mul_right, zero-mul}
+use Rattle.std.proofs.Common.{◌≡◌, ℕ, zero, suc, ◌+◌, ◌-◌, ◌*◌, ◌/◌, ◌%◌, ◌<◌, ◌≤◌, List, [], ◌∷◌, length, get_or, ap, ap₂, sym, ◌∙◌, refl, arith}
+use Rattle.std.proofs.Math.Nat.{add-mul-mod_self_left, add-mul-mod_self_right, div-mul-le_self, mod-add-div, mod-add-div', mod-eq_of_lt, mod-le, mod-lt, mul-le-mul_right, mul-mod_left, zero-mul}
 use Rattle.std.proofs.lemmas.Nat.{mul-mod_second}
 use Rattle.arr_overlap.specs.Legs.{LeadTo}
 use Rattle.arr_overlap.specs.declared.legs.Leg.{Leg}
@@ -42,6 +42,17 @@ turned u d s o t k j some more goes leaves sum =
     let spread : u * t ≡ k * (u * s) + (u * j) * o = ap (λ x. u * x) sum ∙ (let e : u * (k * s + j * o) ≡ k * (u * s) + (u * j) * o = omega arith in e) in
     mul-mod_second u t o ∙ ap (λ x. x % o) spread ∙ add-mul-mod_self_right (k * (u * s)) (u * j) o ∙ sym (mul-mod_second k (u * s) o) ∙ ap (λ x. (k * x) % o) leaves ∙ mul-mod_second k d o
     ∙ ap (λ x. (k * d) % x) o_is ∙ mod_times k p d moves some
+
+-- a divisor of both steps divides what they lead to
+pub divided : (d s o t k j : ℕ) → s % d ≡ 0 → o % d ≡ 0 → t ≡ k * s + j * o → t % d ≡ 0
+divided d s o t k j first second sum =
+    let a : s % d + (s / d) * d ≡ s = mod-add-div' s d in
+    let b : o % d + (o / d) * d ≡ o = mod-add-div' o d in
+    let s_is : s ≡ (s / d) * d = omega arith in
+    let o_is : o ≡ (o / d) * d = omega arith in
+    let whole : t ≡ (k * (s / d) + j * (o / d)) * d =
+    sum ∙ ap₂ (λ x y. k * x + j * y) s_is o_is ∙ (let e : k * ((s / d) * d) + j * ((o / d) * d) ≡ (k * (s / d) + j * (o / d)) * d = omega arith in e) in
+    ap (λ x. x % d) whole ∙ mul-mod_left (k * (s / d) + j * (o / d)) d
 
 -- a count with a given remainder, from another count on
 pub first_after : (p l k : ℕ) → 0 < p → l ≤ k → l + (k % p + (p - l % p)) % p ≤ k

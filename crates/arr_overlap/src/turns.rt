@@ -1,7 +1,7 @@
 //! How many steps of one size leave a multiple of another size.
 ghost use Rattle.std.specs.Prelude.{ℕ, ◌≡◌, ◌≤◌, ◌+◌, ◌*◌, IfSome, None};
 
-/// What Euclid's algorithm finds of two sizes: so many steps of the first leave, beyond multiples of the second, a divisor of the second.
+/// What Euclid's algorithm finds of two sizes: so many steps of the first leave, beyond multiples of the second, a divisor of both.
 /// It is tested where it is used.
 #[derive(Clone, Copy, Default)]
 pub(crate) struct Turns {
@@ -50,16 +50,16 @@ pub(crate) fn first_count(
     if divisor == 0 {
         return Some(least);
     }
-    if other % divisor != 0 {
+    if step % divisor != 0 || other % divisor != 0 {
         return Some(least);
     }
     if count * step % other != divisor % other {
         return Some(least);
     }
-    let left = count * (target % other) % other;
-    if left % divisor != 0 {
+    if target % divisor != 0 {
         return None;
     }
+    let left = count * (target % other) % other;
     let period = other / divisor;
     let gap = (left / divisor + (period - least % period)) % period;
     Some(least.saturating_add(gap))

@@ -1,17 +1,11 @@
 use Rattle.std.proofs.Common.{ℕ, ◌≡◌, ◌≤◌, ◌+◌, ◌*◌, ◌-◌, ◌<◌, ◌/◌, ◌%◌, ap, ◌∙◌, arith}
-use Rattle.std.proofs.Math.Nat.{mul-div_cancel, mul-mod_left}
-use Rattle.arr_overlap.proofs.Counting.{first_after, period_some, turned}
+use Rattle.std.proofs.Math.Nat.{mul-div_cancel}
+use Rattle.arr_overlap.proofs.Counting.{divided, first_after, period_some, turned}
 use Rattle.arr_overlap.proofs.turns.first_count.Goals as goal
 
-pub returns-then-left-divisor-ne0-clause-none : goal.returns-then-left-divisor-ne0-clause-none
-returns-then-left-divisor-ne0-clause-none c e k j sum =
-    let d : ℕ = c.from-divisor.result in
-    let o : ℕ = c.args.other in
-    let zero = c.if-divisor-eq0.false in
-    let other = c.requires.other.0 in
-    let left : (c.from-count.result * (c.args.target % o)) % o ≡ (k % (o / d)) * d =
-    turned c.from-count.result d c.args.step o c.args.target k j (omega arith) (omega arith) c.if-other-divisor-ne0.false c.if-count-step.false sum in
-    c.if-left-divisor-ne0.true (ap (λ x. x % d) left ∙ mul-mod_left (k % (o / d)) d)
+pub returns-then-target-divisor-ne0-clause-none : goal.returns-then-target-divisor-ne0-clause-none
+returns-then-target-divisor-ne0-clause-none c e k j sum =
+    c.if-target-divisor-ne0.true (divided c.from-divisor.result c.args.step c.args.other c.args.target k j c.if-step-divisor-ne0.false c.if-other-divisor-ne0.false sum)
 
 pub returns-clause-first : goal.returns-clause-first
 returns-clause-first c k j low sum =
