@@ -8,8 +8,7 @@ ghost use Rattle.arr_ops.specs.Ops.{creates, freed_by, inputs, makes_base, outpu
 
 use crate::NoMemory;
 use crate::distinct::distinct;
-use crate::touches::all_views;
-use arr_ops::{Op, Operand};
+use arr_ops::{Op, Operand, all_views};
 use arr_view::View;
 use std::alloc::Global;
 

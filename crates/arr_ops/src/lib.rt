@@ -15,6 +15,7 @@
 //! `docs/PLANS.md` states the same rules in words.
 #![tactic(auto)]
 
+mod copies;
 mod formed;
 mod gather;
 mod laws;
@@ -23,6 +24,7 @@ mod op;
 mod plan;
 mod shapes;
 
+pub use copies::{all_views, copied_ops};
 pub use formed::well_formed;
 pub use gather::{Gather, Scatter};
 pub use laws::{
