@@ -16,11 +16,7 @@ use std::alloc::Global;
 fn makes_base(op: &Op, base: u32) -> bool
     ensures { result ≡ makes_base op.now base }
 {
-    op.makes
-        && match &op.out {
-            Some(view) => view.base() == base,
-            None => false,
-        }
+    op.makes && op.writes(base)
 }
 
 /// Whether some operation of a block creates a base.

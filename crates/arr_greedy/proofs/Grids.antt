@@ -34,13 +34,3 @@ pub filter_more : (p : ℕ → Bool) (n : ℕ) → filter p (range_with_len 1 (n
 filter_more p n =
     ap (filter p) (range_more 1 n ∙ ap (λ k. range_with_len 1 n ++ k ∷ []) (let e : 1 + n ≡ n + 1 = omega arith in e))
     ∙ filter-append p (range_with_len 1 n) ((n + 1) ∷ [])
-
-none_left : {B : Type 0} (xs : List B) (i : ℕ) → length xs ≤ i → drop i xs ≡ []
-none_left [] zero l = refl
-none_left [] (suc i) l = refl
-none_left (x ∷ xs) zero l = absurd (omega arith)
-none_left (x ∷ xs) (suc i) l = none_left xs i (omega arith)
-
--- what a slice that covers a vector leaves in it
-pub written_back : {B : Type 0} (items new : List B) (len n : ℕ) → length items ≡ n → length new ≡ n → len ≡ n → take len (new ++ drop (length new) items) ≡ new
-written_back items new len n a b e = ap (λ t. take len (new ++ t)) (none_left items (length new) (omega arith)) ∙ ap (take len) (append-nil new) ∙ take_all len new (omega arith)
