@@ -13,6 +13,9 @@ use indexmap::IndexSet;
 use std::alloc::Global;
 use std::marker::Model;
 
+/// Classes are made of at most so many views.
+pub const MOST_VIEWS: u32 = 1_048_576;
+
 /// The classes of some views: two views are of one class exactly where they are identical (docs/PLANS.md, "Views").
 /// A contract sees the first view of each class, in the order of first sight.
 #[derive(Drop)]
@@ -27,12 +30,13 @@ impl Model for Classes {
     ghost use Rattle.arr_view.specs.Strided.{Strided};
     ghost use Rattle.arr_view.specs.Views.{is_view};
     ghost use Rattle.arr_overlap.specs.Classes.{overlaps_among};
+    ghost use Rattle.arr_overlap.specs.declared.classes.TheConstants.{MOST_VIEWS};
 
     ghost Value = { List Strided };
 
     ghost view = { λ c. c.views.keys };
 
-    ghost invariant = { λ c. (length c.views.keys ≤ 1048576) × (list_all is_view c.views.keys ≡ true) × (c.rows.items ≡ overlaps_among c.views.keys) };
+    ghost invariant = { λ c. (length c.views.keys ≤ MOST_VIEWS) × (list_all is_view c.views.keys ≡ true) × (c.rows.items ≡ overlaps_among c.views.keys) };
 }
 
 /// Where the elements of each view lie.
@@ -121,7 +125,7 @@ fn row_of(
     rows: &[Bits],
 ) -> Result<Bits, NoMemory>
     requires more { length rows.now < length views.now }
-    requires few { length views.now ≤ 1048576 }
+    requires few { length views.now ≤ MOST_VIEWS }
     requires outlined { AreOutlines (length views.now) outlines.now views.now }
     requires marked { AreMarks marks.old.items views.now }
     requires rows { rows.now ≡ map (λ v. map (overlap v) views.now) (take (length rows.now) views.now) }
@@ -145,7 +149,7 @@ fn row_of(
 
 /// For each view a row of the views that overlap it.
 fn rows_of(alloc: Global, views: &[View]) -> Result<Vec<Bits>, NoMemory>
-    requires { length views.now ≤ 1048576 }
+    requires { length views.now ≤ MOST_VIEWS }
     ensures { IfOk result (λ rows. rows.items ≡ overlaps_among views.now) }
 {
     let outlines = all_outlines(alloc, views)?;
@@ -164,9 +168,9 @@ fn rows_of(alloc: Global, views: &[View]) -> Result<Vec<Bits>, NoMemory>
 }
 
 impl Classes {
-    /// The classes of at most 1,048,576 views; want of memory where they can't be kept (docs/PLANS.md, "Views").
+    /// The classes of at most `MOST_VIEWS` views; want of memory where they can't be kept (docs/PLANS.md, "Views").
     pub fn of(alloc: Global, views: &[View]) -> Result<Classes, NoMemory>
-        requires { length views.now ≤ 1048576 }
+        requires { length views.now ≤ MOST_VIEWS }
         ensures { IfOk result (λ c. c ≡ firsts views.now) }
     {
         let mut first_views = IndexSet::new(alloc);

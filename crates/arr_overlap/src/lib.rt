@@ -27,7 +27,7 @@ mod strides;
 mod turns;
 
 pub use alike::identical;
-pub use classes::Classes;
+pub use classes::{Classes, MOST_VIEWS};
 pub use meeting::{overlaps, repeats};
 
 /// Want of memory.
