@@ -1,5 +1,5 @@
 -- The results of scans and reductions, number by number.
-use Rattle.std.proofs.Common.{◌≡◌, ℕ, ◌+◌, ◌-◌, ◌*◌, ◌/◌, ◌%◌, ◌<◌, ◌≤◌, suc, zero, ℤ, pos, List, [], ◌∷◌, ◌++◌, Bool, true, false, cond, not, ◌||◌, ◌&&◌, add-one, Option, Some, None, length, get_or, map, take, drop, refl, ap, ap₂, sym, subst, ◌∙◌, arith}
+use Rattle.std.proofs.Common.{◌≡◌, ℕ, ◌+◌, ◌-◌, ◌*◌, ◌/◌, ◌%◌, ◌<◌, ◌≤◌, suc, zero, ℤ, pos, List, [], ◌∷◌, ◌++◌, Bool, true, false, cond, not, ◌||◌, ◌&&◌, add-one, Option, Some, None, length, get_or, map, take, refl, ap, ap₂, sym, subst, ◌∙◌, arith}
 use Rattle.std.proofs.Math.Nat.{div-add-mod, div-lt_iff_lt-mul, mod-eq_of_lt, mod-lt, mul_assoc, mul-le-mul_right, le-mul_of_pos_right}
 use Rattle.std.specs.Prelude.{◌==◌, is_none, is_some, nat_lt}
 use Rattle.std.specs.List.{AllByRecursion, list_all, range_with_len}
@@ -9,7 +9,7 @@ use Rattle.std.proofs.lemmas.Nat.{mul-le}
 use Rattle.std.proofs.lemmas.List.FromFn.{get_or-map-range_with_len}
 use Rattle.arr_num.specs.declared.elem.Elem.{Elem}
 use Rattle.arr_num.specs.declared.elem.Elem.TheVariants.{U8, I32, I64, U64}
-use Rattle.arr_num.specs.Kinds.{Kind, Reduction, Scan, folds, is_fold, is_reduction, kind, scans, walks}
+use Rattle.arr_num.specs.Kinds.{Kind, Reduction, Scan, folds, is_fold, is_reduction, kind, scans}
 use Rattle.arr_num.specs.Numbers.{fold_start, in_type, value, width}
 use Rattle.arr_view.specs.Strided.{Strided}
 use Rattle.arr_view.specs.Views.{elements, identical, is_view, positions}
@@ -26,18 +26,18 @@ use Rattle.arr_ops.proofs.Lengths.{positions_at}
 use Rattle.arr_ops.proofs.Parts.{length-elements}
 use Rattle.arr_perform.proofs.Moving.{few_positions}
 use Rattle.arr_ops.proofs.Spots.{Plain, all_left, all_right, none_from, operands_of, views_of}
-use Rattle.arr_ops.proofs.Tests.{both_left, both_right, test_all}
+use Rattle.arr_ops.proofs.Tests.{both_left, both_right}
 use Rattle.arr_ops.proofs.Typed.{Computes, computed_in, get_in}
 use Rattle.arr_perform.specs.Performed.{lie_inside}
 use Rattle.arr_perform.proofs.Operands.{input_need, inputs_met}
 use Rattle.arr_perform.proofs.Results.{input_inside, input_typed}
 use Rattle.arr_store.specs.Cells.{width_at}
 use Rattle.arr_store.proofs.Pages.{passes}
-use Rattle.arr_strips.specs.Columns.{Columns, column_of, column, count, fold_upto, look, results_at, scan_at, taken}
+use Rattle.arr_strips.specs.Columns.{Columns, column_of, count, fold_upto, look, results_at, scan_at, taken}
 use Rattle.arr_strips.proofs.Carries.{scan_step}
-use Rattle.arr_strips.proofs.Folds.{Spot, folded_at, spot_of, upto_same}
-use Rattle.arr_strips.proofs.Sorts.{Filling, Freeing, Reducing, Showing, sorts}
-use Rattle.arr_strips.proofs.Values.{Columnar, Folding, Held, HeldAll, get_or-read, length-read}
+use Rattle.arr_strips.proofs.Folds.{folded_at, spot_of, upto_same}
+use Rattle.arr_strips.proofs.Sorts.{Filling, Reducing, sorts}
+use Rattle.arr_strips.proofs.Values.{Columnar, Folding, HeldAll, get_or-read, length-read}
 use Rattle.arr_loop.specs.Numbers.{inner_of, loads_each, row_at}
 use Rattle.arr_loop.proofs.Elements.{width_met}
 

@@ -1,17 +1,16 @@
 -- The results of an element-wise operation, position by position.
-use Rattle.std.proofs.Common.{◌≡◌, ℕ, ◌+◌, ◌*◌, ◌<◌, ◌≤◌, ℤ, pos, List, [], ◌∷◌, ◌++◌, Bool, true, false, cond, not, ◌||◌, ◌&&◌, Option, Some, None, length, get_or, refl, ap, ap₂, sym, subst, ◌∙◌, arith}
+use Rattle.std.proofs.Common.{◌≡◌, ℕ, ◌+◌, ◌*◌, ◌<◌, ◌≤◌, pos, [], ◌∷◌, ◌++◌, true, false, cond, not, ◌||◌, Option, Some, None, length, get_or, refl, ap, ap₂, sym, ◌∙◌, arith}
 use Rattle.std.specs.Prelude.{is_none, nat_lt}
-use Rattle.std.specs.List.{AllByRecursion, filter, list_all}
+use Rattle.std.specs.List.{AllByRecursion, list_all}
 use Rattle.std.specs.Option.{option_to_list}
 use Rattle.std.proofs.lemmas.Bool.{false≢true, lt-ltb}
-use Rattle.arr_num.specs.declared.elem.Elem.{Elem}
 use Rattle.arr_num.specs.declared.code.Code.{Code}
 use Rattle.arr_num.specs.declared.code.Code.TheVariants.{Range}
 use Rattle.arr_num.specs.Kinds.{Kind, Binary, Unary, Counting, Reduction, Scan, Ending, Printing, binds_one, binds_two, counts, folds, is_element_wise, kind}
 use Rattle.arr_num.specs.Numbers.{value, width}
 use Rattle.arr_kernel.specs.Inputs.{takes_left, takes_right}
 use Rattle.arr_view.specs.Strided.{Strided}
-use Rattle.arr_view.specs.Views.{elements, identical, is_view, positions}
+use Rattle.arr_view.specs.Views.{elements, identical, positions}
 use Rattle.arr_ops.specs.declared.op.Op.{Op}
 use Rattle.arr_ops.specs.declared.op.Operand.{Operand}
 use Rattle.arr_ops.specs.declared.op.Operand.TheVariants.{Array, Number}
@@ -30,9 +29,9 @@ use Rattle.arr_perform.proofs.Moving.{small_width}
 use Rattle.arr_perform.proofs.Results.{left_taken, right_taken}
 use Rattle.arr_store.specs.Cells.{number_at, width_at}
 use Rattle.arr_store.proofs.Pages.{passes}
-use Rattle.arr_strips.specs.Columns.{Columns, Row, column, first_taken, look, taken}
+use Rattle.arr_strips.specs.Columns.{Columns, Row, first_taken, look, taken}
 use Rattle.arr_strips.proofs.Sames.{same_base, same_elements}
-use Rattle.arr_strips.proofs.Values.{Columnar, Held, HeldAll, column_zip, length-operand, operand_held, zip_columnar, zips}
+use Rattle.arr_strips.proofs.Values.{Held, HeldAll, column_zip, length-operand, operand_held, zip_columnar, zips}
 use Rattle.arr_loop.specs.Numbers.{loads_each, row_at, same_inputs, same_views}
 
 -- ---- operands

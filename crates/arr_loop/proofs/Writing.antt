@@ -1,5 +1,5 @@
 -- What a block with a serial operation finds, leaves and moves.
-use Rattle.std.proofs.Common.{◌≡◌, ℕ, ◌+◌, ◌*◌, ◌<◌, ◌≤◌, ℤ, pos, List, [], ◌∷◌, ◌++◌, Bool, true, false, cond, not, ◌||◌, ◌&&◌, Option, Some, None, length, map, take, refl, ap, ap₂, sym, subst, ◌∙◌, arith}
+use Rattle.std.proofs.Common.{◌≡◌, ℕ, ◌+◌, ◌*◌, ◌≤◌, ℤ, List, [], ◌∷◌, ◌++◌, Bool, true, false, cond, not, ◌||◌, ◌&&◌, Option, Some, None, length, map, take, refl, ap, ap₂, sym, subst, ◌∙◌, arith}
 use Rattle.std.specs.Prelude.{◌==◌, ◌/◌, IsSome, is_none, nat_eq}
 use Rattle.std.specs.List.{AllByRecursion, filter, list_all, list_any}
 use Rattle.std.specs.Option.{option_to_list}
@@ -12,29 +12,26 @@ use Rattle.arr_view.specs.Views.{elements, has, identical, positions}
 use Rattle.arr_ops.specs.declared.op.Op.{Op}
 use Rattle.arr_ops.specs.Costs.{distinct, elem_of, reads, total, weight, writes}
 use Rattle.arr_ops.specs.Fits.{Need, fits, meets_need, needs, op_fits}
-use Rattle.arr_ops.specs.Formed.{each_typed, same_types, typed, well_formed}
-use Rattle.arr_ops.specs.Memory.{Becomes, Cell, Memory, Writes, changed, computed, eager, lengths_of, or_zero, out_lengths, put, step, without_slots}
+use Rattle.arr_ops.specs.Formed.{each_typed, same_types, typed}
+use Rattle.arr_ops.specs.Memory.{Becomes, Cell, Memory, Writes, changed, computed, eager, lengths_of, or_zero, out_lengths, step, without_slots}
 use Rattle.arr_ops.specs.Ops.{creates, freed, freed_by, inputs, outputs, serial, view_of}
 use Rattle.arr_ops.specs.Traffic.{axis_length, kept_for, out_positions, scratch}
 use Rattle.arr_ops.proofs.Lengths.{positions_at}
 use Rattle.arr_ops.proofs.Pairs.{All_weaker}
-use Rattle.arr_ops.proofs.Spots.{Plain, all_left, all_mapped, all_right, computes_of, operands_of}
-use Rattle.arr_ops.proofs.Tests.{all_of, both_left, both_right, test_all}
+use Rattle.arr_ops.proofs.Spots.{all_left, all_mapped, all_right, computes_of, operands_of}
+use Rattle.arr_ops.proofs.Tests.{all_of, both_left, test_all}
 use Rattle.arr_ops.proofs.Typed.{computed_in}
 use Rattle.arr_store.specs.Cells.{assigned, width_at}
-use Rattle.arr_store.specs.Stored.{Stored, cells, memory_of}
 use Rattle.arr_perform.specs.Performed.{written}
 use Rattle.arr_perform.proofs.Operands.{output_need, outputs_met}
 use Rattle.arr_perform.proofs.Outputs.{put_some}
 use Rattle.arr_perform.proofs.Performing.{computed_alike}
-use Rattle.arr_strips.specs.Columns.{count}
 use Rattle.arr_strips.proofs.Sames.{all_distinct, any_all, or_true}
-use Rattle.arr_strips.proofs.Sorts.{Filling, Freeing, Reducing, Showing, sorts}
+use Rattle.arr_strips.proofs.Sorts.{Reducing, sorts}
 use Rattle.arr_contract.specs.Prepared.{may_share_block}
 use Rattle.arr_contract.proofs.Weighing.{types_agree}
 use Rattle.arr_loop.specs.Numbers.{inner_of, loads_each}
 use Rattle.arr_loop.specs.Opened.{unopened}
-use Rattle.arr_loop.specs.Ready.{before_open}
 use Rattle.arr_loop.proofs.Elements.{width_met}
 use Rattle.arr_loop.proofs.Lone.{Lone, busy, creates_none, eager_lone, reads_lone, serial_makes, writes_lone}
 use Rattle.arr_loop.proofs.Shares.{all_typed, in_turn}

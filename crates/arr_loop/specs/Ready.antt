@@ -1,5 +1,5 @@
 -- From which stores and slots a block may run.
-use Rattle.std.specs.Prelude.{ℕ, ◌≡◌, true, List, None}
+use Rattle.std.specs.Prelude.{◌≡◌, true, List}
 use Rattle.std.specs.List.{list_all}
 use Rattle.std.specs.Option.{option_to_list}
 use Rattle.arr_ops.specs.declared.op.Op.{Op}

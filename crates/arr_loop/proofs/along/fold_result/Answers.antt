@@ -1,4 +1,4 @@
-use Rattle.std.proofs.Common.{◌≡◌, ◌∙◌, ℕ, ◌+◌, ◌*◌, ◌/◌, ◌%◌, ◌≤◌, ◌<◌, ◌||◌, ap, ap₂, arith, length, pos, rules, subst, sym, true, FitsSigned, to_z, of_z}
+use Rattle.std.proofs.Common.{◌≡◌, ◌∙◌, ℕ, ◌+◌, ◌*◌, ◌/◌, ◌%◌, ◌≤◌, ◌<◌, ◌||◌, ap, ap₂, arith, rules, subst, sym, FitsSigned, to_z, of_z}
 use Rattle.std.specs.FinMap as finite
 use Rattle.std.specs.Int.{w128}
 use Rattle.std.proofs.lemmas.Bool.{lt-ltb}
@@ -7,12 +7,10 @@ use Rattle.arr_num.specs.Kinds.{folds, scans}
 use Rattle.arr_num.specs.Numbers.{fold_start, in_type, value}
 use Rattle.arr_num.proofs.Reading.{read}
 use Rattle.arr_view.specs.Views.{elements, positions}
-use Rattle.arr_ops.specs.Traffic.{axis_length}
 use Rattle.arr_ops.proofs.Typed.{in_type_value}
 use Rattle.arr_perform.specs.Performed.{lie_inside}
 use Rattle.arr_perform.proofs.Moving.{small_width}
 use Rattle.arr_perform.proofs.Rows.{start_in}
-use Rattle.arr_strips.specs.Columns.{fold_upto}
 use Rattle.arr_store.specs.Cells.{width_at}
 use Rattle.arr_store.specs.Stored.{cells, memory_of}
 use Rattle.arr_loop.specs.Numbers.{row_at}

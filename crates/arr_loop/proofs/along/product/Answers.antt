@@ -1,4 +1,4 @@
-use Rattle.std.proofs.Common.{◌≡◌, ◌*◌, ◌≤◌, [], ap, arith, drop, rules, subst, sym}
+use Rattle.std.proofs.Common.{◌≡◌, ◌*◌, ◌≤◌, ap, arith, drop, rules, subst}
 use Rattle.std.proofs.Math.ListN.{drop_of_length-le}
 use Rattle.arr_view.specs.Views.{positions}
 use Rattle.arr_view.proofs.Counting.{some_position}

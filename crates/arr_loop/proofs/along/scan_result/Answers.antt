@@ -1,11 +1,10 @@
-use Rattle.std.proofs.Common.{◌≡◌, ◌∙◌, ℕ, ◌+◌, ◌-◌, ◌≤◌, ◌<◌, ◌||◌, ap, arith, get_or, length, pos, rules, subst, sym, true, FitsSigned, to_z, of_z}
+use Rattle.std.proofs.Common.{◌∙◌, ◌+◌, ◌-◌, ◌≤◌, ◌<◌, ◌||◌, ap, arith, get_or, pos, rules, subst, sym, FitsSigned, to_z, of_z}
 use Rattle.std.specs.Int.{w128}
 use Rattle.std.proofs.lemmas.Bool.{lt-ltb}
 use Rattle.arr_num.specs.Kinds.{folds, scans}
 use Rattle.arr_num.specs.Numbers.{in_type}
 use Rattle.arr_num.proofs.Reading.{read}
 use Rattle.arr_view.specs.Views.{positions}
-use Rattle.arr_ops.specs.Memory.{computed}
 use Rattle.arr_store.specs.Stored.{memory_of}
 use Rattle.arr_loop.proofs.Axes.{Input, input_of, result_in, row_before, scan_count, scan_first, scan_later, scan_loads, there}
 use Rattle.arr_loop.proofs.along.scan_result.Goals as goal

@@ -17,7 +17,7 @@ use Rattle.arr_view.specs.Strided.{Strided}
 use Rattle.arr_ops.specs.Costs.{total}
 use Rattle.arr_store.specs.Cells.{width_at}
 use Rattle.arr_store.specs.Stored.{cells, memory_of}
-use Rattle.arr_loop.proofs.Elements.{element_loads, element_value, few_loads, first_shared, left_in, right_in, there_first, there_second}
+use Rattle.arr_loop.proofs.Elements.{element_loads, element_value, few_loads, left_in, right_in, there_first, there_second}
 use Rattle.arr_loop.proofs.computing.element_result.Goals as goal
 
 pub first_number-left-requires-clause-inside : goal.first_number-left-requires-clause-inside

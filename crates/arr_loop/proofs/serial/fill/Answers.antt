@@ -1,22 +1,19 @@
-use Rattle.std.proofs.Common.{◌≡◌, ◌∙◌, ℕ, ◌+◌, ◌*◌, ◌≤◌, ◌<◌, Option, Some, None, [], ◌∷◌, true, false, cond, ap, ap₂, arith, length, subst, sym, take}
+use Rattle.std.proofs.Common.{◌≡◌, ◌∙◌, ◌+◌, ◌*◌, true, false, cond, ap, ap₂, subst, sym, take}
 use Rattle.std.specs.FinMap as finite
 use Rattle.std.specs.List.{AllByRecursion, list_all}
 use Rattle.std.specs.Option.{option_to_list}
-use Rattle.std.proofs.lemmas.Nat.{mul-le}
 use Rattle.arr_num.specs.Kinds.{kind}
 use Rattle.arr_num.specs.Numbers.{width}
 use Rattle.arr_view.specs.Strided.{Strided}
 use Rattle.arr_view.specs.Views.{elements, positions}
 use Rattle.arr_ops.specs.Fits.{meets_need}
-use Rattle.arr_ops.specs.Memory.{Cell, computed}
+use Rattle.arr_ops.specs.Memory.{computed}
 use Rattle.arr_ops.specs.Ops.{freed_by}
-use Rattle.arr_ops.specs.Traffic.{axis_length}
 use Rattle.arr_ops.proofs.Spots.{computes_of, operands_of}
 use Rattle.arr_ops.proofs.Tests.{test_all}
 use Rattle.arr_ops.proofs.Typed.{computed_in}
 use Rattle.arr_num.specs.Numbers.{in_type}
-use Rattle.arr_perform.specs.Performed.{lie_inside, written}
-use Rattle.arr_perform.proofs.Moving.{few_positions, small_width}
+use Rattle.arr_perform.specs.Performed.{lie_inside}
 use Rattle.arr_perform.proofs.Operands.{output_need, outputs_met}
 use Rattle.arr_perform.proofs.Outputs.{out_inside, out_takes}
 use Rattle.arr_store.specs.Cells.{takes, width_at}

@@ -1,21 +1,14 @@
-use Rattle.std.proofs.Common.{◌≡◌, ◌∙◌, ℕ, ◌+◌, ◌*◌, ◌≤◌, List, [], ◌∷◌, Option, Some, None, true, false, cond, ap, ap₂, arith, length, subst, sym}
-use Rattle.std.specs.FinMap as finite
+use Rattle.std.proofs.Common.{◌≡◌, ◌∙◌, ℕ, ◌+◌, ◌≤◌, List, [], ◌∷◌, Option, Some, None, cond, ap, subst, sym}
 use Rattle.std.specs.Prelude.{IsSome, is_some}
 use Rattle.std.specs.List.{find}
 use Rattle.std.proofs.lemmas.Bool.{false≢true}
-use Rattle.arr_num.specs.Numbers.{width}
 use Rattle.arr_view.specs.Strided.{Strided}
 use Rattle.arr_view.specs.Views.{elements, positions}
 use Rattle.arr_ops.specs.declared.op.Op.{Op}
-use Rattle.arr_ops.specs.Costs.{reads, total, weight, writes}
 use Rattle.arr_ops.specs.Fits.{op_fits}
-use Rattle.arr_ops.specs.Memory.{Cell, Memory, computed, eager, without_slots}
-use Rattle.arr_ops.specs.Ops.{creates, freed_by}
-use Rattle.arr_ops.specs.Traffic.{scratch}
-use Rattle.arr_perform.specs.Performed.{written}
-use Rattle.arr_store.specs.Slots.{slots_of}
+use Rattle.arr_ops.specs.Memory.{Cell, computed, eager, without_slots}
+use Rattle.arr_ops.specs.Ops.{freed_by}
 use Rattle.arr_store.specs.Stored.{cells, memory_of}
-use Rattle.arr_loop.specs.Opened.{unopened}
 use Rattle.arr_loop.specs.Ready.{before_open}
 use Rattle.arr_loop.proofs.Lone.{Lone, creates_none, found_some, lone_op, serial_writes, slots_lone}
 use Rattle.arr_loop.proofs.Writing.{freed_there, left_there, serial_ends, serial_fits, serial_kept, serial_loads, serial_makes_none, serial_stores, serial_unopened}

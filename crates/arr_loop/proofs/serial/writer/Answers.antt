@@ -1,6 +1,5 @@
 use Rattle.std.proofs.Common.{◌∙◌, ap, sym, Some}
 use Rattle.std.specs.Prelude.{is_some}
-use Rattle.std.specs.List.{find}
 use Rattle.arr_ops.specs.declared.op.Op.{Op}
 use Rattle.arr_loop.proofs.Moves.{find_at, find_more}
 use Rattle.arr_loop.proofs.serial.writer.Goals as goal
