@@ -1,0 +1,17 @@
+pub mod Rows
+pub mod Parts
+pub mod Firsts
+pub mod ClassTests
+pub mod Positions
+pub mod Flat
+pub mod Numbered
+pub mod Marks
+pub mod Loops
+pub mod Joins
+pub mod Moves
+pub mod Given
+pub mod Worths
+pub mod Grows
+pub mod Readings
+pub mod AtStages
+pub mod Judging
