@@ -1,4 +1,5 @@
 pub mod Rows
+pub mod Apart
 pub mod Parts
 pub mod Firsts
 pub mod ClassTests

@@ -1,6 +1,6 @@
 //! Two views.
-ghost use Rattle.std.specs.Prelude.{◌≡◌, IfOk, false, get_or};
-ghost use Rattle.arr_view.specs.Views.{elements, identical, overlap};
+ghost use Rattle.std.specs.Prelude.{◌≡◌, IfOk, false, true, get_or};
+ghost use Rattle.arr_view.specs.Views.{elements, identical, overlap, share};
 ghost use Rattle.arr_check.specs.Classed.{Marks};
 
 use crate::NoMemory;
@@ -37,12 +37,27 @@ fn has_mark(marks: &[bool], element: u32) -> bool
     at < marks.len() && marks[at]
 }
 
+/// Whether the elements of one view lie all below those of the other.
+fn lie_apart(a: &View, b: &View) -> bool
+    ensures { result ≡ true → share (elements a.now) (elements b.now) ≡ false }
+{
+    let (least, greatest) = a.ends();
+    let (other_least, other_greatest) = b.ends();
+    if greatest < other_least {
+        return true;
+    }
+    other_greatest < least
+}
+
 /// Whether two views have the same base and a common element, where the elements of the second are marked.
 pub(crate) fn overlaps(a: &View, b: &View, marks: &[bool]) -> bool
     requires { Marks marks.now (elements b.now) }
     ensures { result ≡ overlap a.now b.now }
 {
     if a.base() != b.base() {
+        return false;
+    }
+    if lie_apart(a, b) {
         return false;
     }
     for element in Walk::new(a) {

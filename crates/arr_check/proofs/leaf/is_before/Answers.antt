@@ -1,4 +1,4 @@
-use Rattle.std.proofs.Common.{◌≡◌, ◌∙◌, ◌+◌, ◌<◌, ◌≤◌, sym, ap, ap₂, true, false, subst, drop, length}
+use Rattle.std.proofs.Common.{◌∙◌, ◌<◌, ◌≤◌, sym, ap, ap₂, subst, arith}
 use Rattle.std.specs.Prelude.{◌&&◌, nat_lt}
 use Rattle.arr_law.specs.declared.fact.Fact.TheVariants.{Apart}
 use Rattle.arr_law.specs.ProblemOf.{problem_of}
@@ -17,13 +17,13 @@ pub returns-then-not-has : goal.returns-then-not-has
 returns-then-not-has c =
     let K = known_of (problem_of c.args.tables.now) c.args.known.now in
     rest_fails (λ g. nat_lt c.args.f g && K (Apart c.args.f g)) c.args.ops.now c.loop-at.at c.at-g.result.now _ c.at-g.ensures c.loop-at.invariant
-    (ap₂ (λ a b. a && b) (lt-ltb c.args.f c.at-g.result.now (let l : c.args.f < c.at-g.result.now = omega (Rattle.std.proofs.Common.arith, c.if-f-g.false) in l)) (sym c.has.ensures ∙ c.if-not-has.true))
+    (ap₂ (λ a b. a && b) (lt-ltb c.args.f c.at-g.result.now (let l : c.args.f < c.at-g.result.now = omega (arith, c.if-f-g.false) in l)) (sym c.has.ensures ∙ c.if-not-has.true))
 
 pub loop-at-preserved : goal.loop-at-preserved
 loop-at-preserved c =
     let K = known_of (problem_of c.args.tables.now) c.args.known.now in
     rest_more (λ g. nat_lt c.args.f g && K (Apart c.args.f g)) c.args.ops.now c.loop-at.at c.at-g.result.now _ c.at-g.ensures c.loop-at.invariant
-    (ap₂ (λ a b. a && b) (lt-ltb c.args.f c.at-g.result.now (let l : c.args.f < c.at-g.result.now = omega (Rattle.std.proofs.Common.arith, c.if-f-g.false) in l)) (sym c.has.ensures ∙ c.if-not-has.false))
+    (ap₂ (λ a b. a && b) (lt-ltb c.args.f c.at-g.result.now (let l : c.args.f < c.at-g.result.now = omega (arith, c.if-f-g.false) in l)) (sym c.has.ensures ∙ c.if-not-has.false))
 
 pub returns : goal.returns
 returns c =

@@ -1,4 +1,4 @@
-use Rattle.std.proofs.Common.{◌≡◌, ◌∙◌, ◌<◌, ◌≤◌, List, length, take, false, ap, sym, subst}
+use Rattle.std.proofs.Common.{◌∙◌, ◌<◌, ◌≤◌, List, length, ap, sym, subst, get_or}
 use Rattle.arr_view.specs.Strided.{Strided}
 use Rattle.arr_view.specs.Views.{identical}
 use Rattle.arr_check.proofs.Positions.{first_at, none_at_all, position_at, position_none}
@@ -10,7 +10,7 @@ returns-then-identical c =
     let same = c.deref-other-items.ensures.value ∙ c.self.view_is in
     let l : c.loop-at.at < length vs = subst (λ ws. c.loop-at.at < length ws) same c.loop-at-test.true in
     position_at (identical c.args.view.now) vs c.loop-at.at l
-    (first_at (identical c.args.view.now) vs c.loop-at.at c.other-item.result l (c.other-item.is ∙ ap (λ ws. Rattle.std.proofs.Common.get_or ws c.loop-at.at c.other-item.result) same) c.loop-at.invariant (sym c.identical.ensures ∙ c.if-identical.true))
+    (first_at (identical c.args.view.now) vs c.loop-at.at c.other-item.result l (c.other-item.is ∙ ap (λ ws. get_or ws c.loop-at.at c.other-item.result) same) c.loop-at.invariant (sym c.identical.ensures ∙ c.if-identical.true))
 
 pub returns : goal.returns
 returns c =
