@@ -1,0 +1,5 @@
+pub mod Base
+pub mod Counts
+pub mod Stepped
+pub mod Running
+pub mod Lists
