@@ -1,15 +1,13 @@
 -- What is counted of facts: floors, open pairs and missing facts.
-use Rattle.std.proofs.Common.{◌≡◌, ℕ, zero, suc, ◌+◌, ◌-◌, ◌*◌, ◌<◌, ◌≤◌, List, [], ◌∷◌, Bool, true, false, cond, not, ◌&&◌, ◌||◌, Option, Some, None, refl, sym, ap, ◌∙◌, subst, arith, ⊎_elim}
+use Rattle.std.proofs.Common.{◌≡◌, ℕ, zero, suc, ◌+◌, ◌*◌, ◌<◌, ◌≤◌, Bool, true, false, cond, not, ◌&&◌, Option, Some, None, refl, sym, ap, ◌∙◌, subst, arith}
 use Rattle.std.specs.Prelude.{nat_le, nat_lt, ◌==◌}
-use Rattle.std.specs.List.{list_any, list_all}
-use Rattle.std.proofs.lemmas.Bool.{and_parts, and_from, or_left, or_right, not-true, true≢false, leb-true, le-leb, eqb-true, eq-eqb, ne_eqb, ltb-true}
-use Rattle.arr_ops.proofs.Tests.{or_cases}
+use Rattle.std.proofs.lemmas.Bool.{and_parts, and_from, or_left, or_right, not-true, true≢false, leb-true, le-leb, eq-eqb, ne_eqb, ltb-true}
 use Rattle.arr_law.specs.declared.fact.Fact.{Fact}
 use Rattle.arr_law.specs.declared.fact.Fact.TheVariants.{Same, Apart, Before}
 use Rattle.arr_law.specs.Problem.{Problem, is_op, is_pair, operations, sum_below}
 use Rattle.arr_law.specs.Facts.{Facts, is_fact, with_fact, root_facts}
 use Rattle.arr_law.specs.Leaves.{is_apart, surely_charges}
-use Rattle.arr_law.specs.Floor.{is_paid, is_paid_twice, floor_of_class, floor, kept_apart, Within}
+use Rattle.arr_law.specs.Floor.{is_paid, is_paid_twice, floor_of_class, floor, Within}
 use Rattle.arr_law.proofs.Sums.{sum_below-le}
 use Rattle.arr_search.specs.Counts.{bit, count_pairs, is_open, open_pairs, fusible_pairs, missing}
 use Rattle.arr_search.proofs.Base.{or_more, and_more, not_more, any_more, by_bool, bit-le, bit-most, sum_below-less, sum_below-most}

@@ -1,19 +1,17 @@
 -- The laws of a search.
-use Rattle.std.proofs.Common.{◌≡◌, ℕ, ◌+◌, ◌*◌, ◌<◌, ◌≤◌, List, [], ◌∷◌, Bool, true, not, ◌&&◌, refl, sym, ap, ◌∙◌, subst, arith}
+use Rattle.std.proofs.Common.{◌≡◌, true, not, ◌&&◌, refl, sym, ap, ◌∙◌, subst, arith}
 use Rattle.std.specs.Prelude.{nat_lt, ◌==◌}
 use Rattle.std.proofs.lemmas.Bool.{and_parts, and_from, not-true, eqb-true, true≢false}
 use Rattle.arr_ops.proofs.Tests.{or_cases}
-use Rattle.arr_law.specs.declared.fact.Fact.{Fact}
 use Rattle.arr_law.specs.declared.fact.Fact.TheVariants.{Same, Apart, Before}
 use Rattle.arr_law.specs.Problem.{Problem, is_op, is_pair}
-use Rattle.arr_law.specs.Facts.{Facts, is_fact, root_facts}
+use Rattle.arr_law.specs.Facts.{root_facts}
 use Rattle.arr_law.specs.Settled.{IsProper}
-use Rattle.arr_law.specs.Floor.{IsSymmetric, IsClosed, IsClosure}
+use Rattle.arr_law.specs.Floor.{IsSymmetric}
 use Rattle.arr_law.specs.ProblemOf.{problem_of}
 use Rattle.arr_law.proofs.Lists.{floors_low}
 use Rattle.arr_law.proofs.Proper.{proper}
-use Rattle.arr_search.specs.Counts.{is_open}
-use Rattle.arr_search.specs.Steps.{Steps, Pays, after}
+use Rattle.arr_state.specs.Known.{after}
 use Rattle.arr_search.specs.Laws.{PlansPay, Starts, Improves, Branches, Dies, Leaves, Finishes, FindsClosure, StepsAreFew}
 use Rattle.arr_search.proofs.Counts.{missing-most}
 use Rattle.arr_search.proofs.Stepped.{stepped}

@@ -1,8 +1,8 @@
 -- What a search keeps true: the records so far, the facts of the subtrees that are still to come, and three numbers.
-use Rattle.std.proofs.Common.{◌≡◌, ℕ, zero, suc, ◌+◌, ◌-◌, ◌*◌, ◌^◌, ◌<◌, ◌≤◌, List, [], ◌∷◌, ◌++◌, length, Bool, true, false, cond, not, ◌&&◌, ◌⊎◌, inl, inr, refl, sym, ap, ap₂, ◌∙◌, subst, arith, ⊎_elim, append_assoc, append-nil, length-append, min}
-use Rattle.std.specs.Prelude.{nat_le, nat_lt, ◌==◌}
-use Rattle.std.specs.List.{sum_by, AllByRecursion}
-use Rattle.std.proofs.lemmas.Bool.{and_parts, and_from, not-true, true≢false, le-leb, lt-ltb, cases_lt}
+use Rattle.std.proofs.Common.{◌≡◌, ℕ, zero, suc, ◌+◌, ◌*◌, ◌^◌, ◌<◌, ◌≤◌, List, [], ◌∷◌, ◌++◌, length, Bool, true, false, not, ◌&&◌, ◌⊎◌, inl, inr, refl, sym, ap, ap₂, ◌∙◌, subst, arith, ⊎_elim, append_assoc, append-nil, min}
+use Rattle.std.specs.Prelude.{nat_lt}
+use Rattle.std.specs.List.{AllByRecursion}
+use Rattle.std.proofs.lemmas.Bool.{and_parts, and_from, true≢false, le-leb, lt-ltb, ltb-true, cases_lt}
 use Rattle.std.proofs.lemmas.List.Sums.{sum_by-cons, fold-append}
 use Rattle.std.proofs.Math.Nat.{mul-le-mul_left, pow-suc}
 use Rattle.arr_law.specs.declared.charge.Charge.{Charge}
@@ -13,14 +13,15 @@ use Rattle.arr_law.specs.declared.reject.Reject.TheVariants.{BadBranch, BadLeaf,
 use Rattle.arr_law.specs.Problem.{Problem, is_op}
 use Rattle.arr_law.specs.Facts.{Facts, with_fact, root_facts}
 use Rattle.arr_law.specs.Leaves.{is_leaf, worth}
-use Rattle.arr_law.specs.Trees.{unless, or_else, go_on, may_branch, is_dead, walk}
+use Rattle.arr_law.specs.Trees.{unless, or_else, go_on, may_branch, walk}
 use Rattle.arr_law.specs.Floor.{Within, IsSymmetric, IsClosed, Follows, floor, kept_apart}
-use Rattle.arr_search.specs.Counts.{missing, is_open, open_pairs, fusible_pairs}
+use Rattle.arr_state.specs.Went.{CanGoOn}
+use Rattle.arr_search.specs.Counts.{is_open, open_pairs, fusible_pairs}
 use Rattle.arr_search.specs.Found.{units_of, least_of, lower, are_low, node_most, IsFound}
-use Rattle.arr_search.specs.Steps.{Pays}
+use Rattle.arr_search.specs.Steps.{Pays, IsPlain}
 use Rattle.arr_search.specs.Running.{size, load, loads, IsAmple, IsReady, Running}
 use Rattle.arr_search.proofs.Counts.{with_within, with_here, floor-le, open-le, open-less, open-root, missing-most}
-use Rattle.arr_search.proofs.Stepped.{Stepped, units-append, symmetric-with}
+use Rattle.arr_search.proofs.Stepped.{Stepped, units-append, symmetric-with, plain-with, root_plain, more_left}
 
 pub size-le : (p q : ℕ) → p ≤ q → size p ≤ size q
 size-le zero zero l = omega arith
@@ -90,6 +91,7 @@ module _ (problem : Problem) (greedy budget : ℕ) where
         spent = λ l. absurd (omega arith);
         roots = ((λ x e. e), tt);
         symmetric = (fair, tt);
+        plain = (root_plain problem, tt);
         ready = λ a. inr (refl, refl);
         over_floor = pays (kept_apart problem) kept_follows;
         over_closure = λ facts f a. pays facts f;
@@ -145,6 +147,7 @@ module _ (problem : Problem) (greedy budget : ℕ) where
         spent = λ low. r.spent (omega (arith, low, l));
         roots = r.roots;
         symmetric = r.symmetric;
+        plain = r.plain;
         ready = r.ready;
         over_floor = r.over_floor;
         over_closure = r.over_closure;
@@ -181,6 +184,9 @@ module _ (problem : Problem) (greedy budget : ℕ) where
     at_symmetric : IsSymmetric F'
     at_symmetric = s.symmetric r.symmetric.0
 
+    at_plain : IsPlain F'
+    at_plain = s.plain r.plain.0
+
     pub at_ready : IsClosed problem F' → IsReady problem F'
     at_ready closed some follows = follows F' at_roots at_symmetric closed
 
@@ -209,6 +215,7 @@ module _ (problem : Problem) (greedy budget : ℕ) where
           spent = λ l. absurd (omega (arith, r.spent l, room));
           roots = (λ x e. with_within F' (Same f g) x (at_roots x e), (λ x e. with_within F' (Apart f g) x (at_roots x e), r.roots.1));
           symmetric = (symmetric-with F' (Same f g) at_symmetric, (symmetric-with F' (Apart f g) at_symmetric, r.symmetric.1));
+          plain = (at_plain, (plain-with F' f g (λ same. let l : f < g = ltb-true f g parts.0 in absurd (omega arith)) at_plain, r.plain.1));
           ready = λ a. inl (λ some fo x e. with_within F' (Same f g) x (all_known a some fo x e), (λ some fo x e. with_within F' (Apart f g) x (all_known a some fo x e), others_ready a));
           over_floor = r.over_floor;
           over_closure = r.over_closure;
@@ -242,6 +249,7 @@ module _ (problem : Problem) (greedy budget : ℕ) where
           spent = λ low. omega (arith, r.spent low, room);
           roots = r.roots.1;
           symmetric = r.symmetric.1;
+          plain = r.plain.1;
           ready = λ a. inl (others_ready a);
           over_floor = r.over_floor;
           over_closure = r.over_closure;
@@ -249,7 +257,7 @@ module _ (problem : Problem) (greedy budget : ℕ) where
           enough = omega (arith, at_enough, load-least problem F');
         }
 
-    pub leafed : (charges : List Charge) (w cost' : ℕ) → is_leaf problem F' charges ≡ true → w ≡ worth problem charges → floor problem F' ≤ w → cost' ≤ cost → Pays problem cost' → IsOpened → units + length S ≤ budget → (w < cost' → units + length S ≡ budget) → (IsClosed problem F' ⊎ ((cost ≤ w) ⊎ ((units + length S ≡ budget) × (1 ≤ missing problem F')))) → Keeps P ((tree ++ S) ++ Worth charges ∷ []) (units + length S) (min least w) cost'
+    pub leafed : (charges : List Charge) (w cost' : ℕ) → is_leaf problem F' charges ≡ true → w ≡ worth problem charges → floor problem F' ≤ w → cost' ≤ cost → Pays problem cost' → IsOpened → units + length S ≤ budget → (w < cost' → units + length S ≡ budget) → (IsClosed problem F' ⊎ ((cost ≤ w) ⊎ ((units + length S ≡ budget) × CanGoOn problem F'))) → Keeps P ((tree ++ S) ++ Worth charges ∷ []) (units + length S) (min least w) cost'
     leafed charges w cost' leaf is over cheaper pays opened room spent why =
         record {
           trees = λ bound lb more. at_trees bound (omega arith) (Worth charges) more ∙ ap₂ (λ a b. go_on (or_else (unless a BadLeaf) (unless b WeakLeaf)) (Worth charges ∷ more) (walk problem 2 bound P more)) leaf (le-leb bound (worth problem charges) (omega (arith, is, lb)));
@@ -262,6 +270,7 @@ module _ (problem : Problem) (greedy budget : ℕ) where
           spent = λ low. ⊎_elim (λ (l : least < cost'). omega (arith, r.spent (omega (arith, l, cheaper)), room)) (λ (l : cost' ≤ least). spent (omega arith)) (cases_lt least cost');
           roots = r.roots.1;
           symmetric = r.symmetric.1;
+          plain = r.plain.1;
           ready = λ a. inl (others_ready a);
           over_floor = omega (arith, r.over_floor, over, floor_here, floor_there);
           over_closure = λ facts fo a. omega (arith, r.over_closure facts fo a, over_leaf facts fo a);
@@ -275,7 +284,7 @@ module _ (problem : Problem) (greedy budget : ℕ) where
             (λ (closed : IsClosed problem F'). omega (arith, over, floor-le problem facts F' (at_ready closed facts fo)))
             (λ h. ⊎_elim
             (λ (high : cost ≤ w). omega (arith, high, r.pays facts fo))
-            (λ (k : (units + length S ≡ budget) × (1 ≤ missing problem F')). ⊎_elim
+            (λ (k : (units + length S ≡ budget) × CanGoOn problem F'). ⊎_elim
             (λ (all : AllByRecursion (IsReady problem) (F ∷ P)). omega (arith, over, floor-le problem facts F' (λ x e. s.grows x (all.0 facts fo x e))))
-            (λ (z : (units ≡ 0) × (F ∷ P ≡ root_facts problem ∷ [])). absurd (omega (arith, z.0, k.0, k.1, a, s.lost, missing-most problem F)))
+            (λ (z : (units ≡ 0) × (F ∷ P ≡ root_facts problem ∷ [])). absurd (omega (arith, z.0, k.0, more_left problem F' k.1, a, s.lost, missing-most problem F)))
             (r.ready a)) h) why

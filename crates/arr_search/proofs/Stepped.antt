@@ -1,8 +1,8 @@
 -- What steps do to all that a search keeps.
-use Rattle.std.proofs.Common.{◌≡◌, ℕ, zero, suc, ◌+◌, ◌-◌, ◌<◌, ◌≤◌, List, [], ◌∷◌, ◌++◌, length, Bool, true, false, cond, not, ◌&&◌, ◌||◌, Option, Some, None, refl, sym, ap, ◌∙◌, subst, arith, append_assoc, length-append}
-use Rattle.std.specs.Prelude.{nat_le, ◌==◌, slice_get, map}
+use Rattle.std.proofs.Common.{◌≡◌, ℕ, zero, suc, ◌+◌, ◌-◌, ◌≤◌, List, [], ◌∷◌, ◌++◌, length, Bool, true, false, cond, not, ◌&&◌, ◌||◌, Option, Some, None, refl, sym, ap, ap₂, ◌∙◌, subst, arith, append_assoc, length-append}
+use Rattle.std.specs.Prelude.{nat_le, ◌==◌, slice_get}
 use Rattle.std.specs.List.{list_all, AllByRecursion}
-use Rattle.std.proofs.lemmas.Bool.{and_parts, and_from, or_left, or_right, not-true, true≢false, eqb-true, eq-eqb}
+use Rattle.std.proofs.lemmas.Bool.{and_parts, and_from, or_left, or_right, not-true, true≢false, eqb-true, eq-eqb, false_from_ne_true}
 use Rattle.std.proofs.lemmas.List.Sums.{sum_by-append, fold-append}
 use Rattle.arr_ops.specs.Formed.{all_pairs}
 use Rattle.arr_ops.proofs.Tests.{or_cases, all_of}
@@ -11,14 +11,17 @@ use Rattle.arr_law.specs.declared.fact.Fact.TheVariants.{Same, Apart, Before}
 use Rattle.arr_law.specs.declared.record.Record.{Record}
 use Rattle.arr_law.specs.declared.record.Record.TheVariants.{Flush, Plan, Cost, Bound, Step, Branch, Dead, Worth, End}
 use Rattle.arr_law.specs.declared.reject.Reject.TheVariants.{BadStep}
-use Rattle.arr_law.specs.Problem.{Problem, is_op, ends_base_of}
-use Rattle.arr_law.specs.Facts.{Facts, is_fact, with_fact}
+use Rattle.arr_law.specs.Problem.{Problem, is_op, is_pair, ends_base_of}
+use Rattle.arr_law.specs.Facts.{Facts, is_fact, with_fact, root_facts}
 use Rattle.arr_law.specs.Rules.{Rule, rule_list, free_rule, rule_named, applies}
 use Rattle.arr_law.specs.Trees.{unless, go_on, step_fault, after_rule, walk}
 use Rattle.arr_law.specs.Floor.{Within, IsSymmetric, IsClosed}
+use Rattle.arr_state.specs.Went.{CanGoOn}
 use Rattle.arr_search.specs.Counts.{missing}
+use Rattle.arr_search.specs.Steps.{IsPlain}
 use Rattle.arr_search.specs.Found.{units_of, least_of, is_unit, lower, are_low}
-use Rattle.arr_search.specs.Steps.{given, Steps, after}
+use Rattle.arr_state.specs.Known.{after}
+use Rattle.arr_state.specs.Steps.{given, Steps}
 use Rattle.arr_search.proofs.Base.{all_more, by_bool}
 use Rattle.arr_search.proofs.Counts.{with_within, with_here, missing-less, IsAbout}
 
@@ -31,6 +34,7 @@ pub record Stepped (problem : Problem) (facts facts' : Facts) (steps : List Reco
   pub lost : missing problem facts' + length steps ≤ missing problem facts
   pub follows : (other : Facts) → IsSymmetric other → IsClosed problem other → Within facts other → Within facts' other
   pub symmetric : IsSymmetric facts → IsSymmetric facts'
+  pub plain : IsPlain facts → IsPlain facts'
 
 -- what a step that gives a fact says
 given-some : (problem : Problem) (facts : Facts) (o : Option Rule) (x : Fact) → given problem facts o ≡ Some x → (rule : Rule) × (o ≡ Some rule) × (applies problem facts rule ≡ true) × (rule.gives ≡ x)
@@ -78,6 +82,56 @@ gives_ops problem n f g h rule e = go (n == 9) e
     go : (b : Bool) → cond b (cond ((2 == 2) && ends_base_of problem f g) (Some (free_rule problem f g)) None) (cond (nat_le 3 n) (slice_get (rule_list f g h) (n - 3)) None) ≡ Some rule → GivesOps problem rule
     go true s = joins ((2 == 2) && ends_base_of problem f g) s
     go false s = listed (nat_le 3 n) s
+
+-- no rule gives that an operation stands apart from itself
+abbrev GivesPlain : Rule → Type 0
+GivesPlain rule = all_pairs (λ f g. not (f == g)) rule.operations ≡ true → (k : ℕ) → is_fact rule.gives (Apart k k) ≡ false
+
+apart_plain : (f h : ℕ) → (f ≡ h → ⊥) → (k : ℕ) → is_fact (Apart f h) (Apart k k) ≡ false
+apart_plain f h ne k =
+    false_from_ne_true (((f == k) && (h == k)) || ((f == k) && (h == k))) (λ e.
+    let both : ((f == k) && (h == k)) ≡ true = or_cases ((f == k) && (h == k)) ((f == k) && (h == k)) e (λ t. t) (λ t. t) in
+    let p = and_parts (f == k) (h == k) both in
+    ne (eqb-true f k p.0 ∙ sym (eqb-true h k p.1)))
+
+third : (f g h : ℕ) → all_pairs (λ f g. not (f == g)) (f ∷ g ∷ h ∷ []) ≡ true → f ≡ h → ⊥
+third f g h e same =
+    let p = and_parts (not (f == g) && (not (f == h) && true)) ((not (g == h) && true) && (true && true)) e in
+    let q = and_parts (not (f == g)) (not (f == h) && true) p.0 in
+    let r = and_parts (not (f == h)) true q.1 in
+    true≢false (sym (eq-eqb f h same) ∙ not-true _ r.0)
+
+all_plain : (f g h : ℕ) → AllByRecursion GivesPlain (rule_list f g h)
+all_plain f g h = (
+  λ p k. refl,
+  (λ p k. refl, (λ p k. refl, (λ p. apart_plain f h (third f g h p), (λ p. apart_plain f h (third f g h p), (λ p. apart_plain f h (third f g h p), tt))))),
+)
+
+gives_plain : (problem : Problem) (n f g h : ℕ) (rule : Rule) → rule_named problem 2 n f g h ≡ Some rule → GivesPlain rule
+gives_plain problem n f g h rule e = go (n == 9) e
+  where
+    joins : (b : Bool) → cond b (Some (free_rule problem f g)) None ≡ Some rule → GivesPlain rule
+    joins true s = let same : free_rule problem f g ≡ rule = cc in subst GivesPlain same (λ p k. refl)
+    joins false s = absurd (cc)
+
+    listed : (b : Bool) → cond b (slice_get (rule_list f g h) (n - 3)) None ≡ Some rule → GivesPlain rule
+    listed true s = each_at GivesPlain (rule_list f g h) (n - 3) rule (all_plain f g h) s
+    listed false s = absurd (cc)
+
+    go : (b : Bool) → cond b (cond ((2 == 2) && ends_base_of problem f g) (Some (free_rule problem f g)) None) (cond (nat_le 3 n) (slice_get (rule_list f g h) (n - 3)) None) ≡ Some rule → GivesPlain rule
+    go true s = joins ((2 == 2) && ends_base_of problem f g) s
+    go false s = listed (nat_le 3 n) s
+
+pub plain-with : (facts : Facts) (f g : ℕ) → (f ≡ g → ⊥) → IsPlain facts → IsPlain (with_fact (Apart f g) facts)
+plain-with facts f g ne plain k = ap₂ (λ a b. a || b) (apart_plain f g ne k) (plain k)
+
+pub root_plain : (problem : Problem) → IsPlain (root_facts problem)
+root_plain problem f =
+    false_from_ne_true (root_facts problem (Apart f f)) (λ e.
+    let p = and_parts (is_pair problem f f) (not (problem.fusible f f)) e in
+    let q = and_parts (is_op problem f) (is_op problem f && not (f == f)) p.0 in
+    let r = and_parts (is_op problem f) (not (f == f)) q.1 in
+    true≢false (sym (eq-eqb f f refl) ∙ not-true _ r.1))
 
 swap_then : (a b c d e f : ℕ) → (((a == c) && (b == d)) || ((a == d) && (b == c))) ≡ true → (((c == e) && (d == f)) || ((c == f) && (d == e))) ≡ true → (((a == e) && (b == f)) || ((a == f) && (b == e))) ≡ true
 swap_then a b c d e f p q =
@@ -157,6 +211,12 @@ module _ (problem : Problem) (facts : Facts) (n f g h : ℕ) (x : Fact) (rule : 
       (subst (IsAbout problem) gives (gives_ops problem n f g h rule is (all_of (is_op problem) rule.operations (and_parts (list_all (is_op problem) rule.operations) (all_pairs (λ f g. not (f == g)) rule.operations) operations).0)))
       isnt_known (with_here facts x)
 
+  plain_one : IsPlain facts → IsPlain (with_fact x facts)
+  plain_one plain k =
+      ap₂ (λ a b. a || b)
+      (subst (λ y. is_fact y (Apart k k) ≡ false) gives (gives_plain problem n f g h rule is (and_parts (list_all (is_op problem) rule.operations) (all_pairs (λ f g. not (f == g)) rule.operations) operations).1 k))
+      (plain k)
+
   one_rule : Stepped problem facts (with_fact x facts) (Step n f g h ∷ [])
   one_rule =
       record {
@@ -168,13 +228,18 @@ module _ (problem : Problem) (facts : Facts) (n f g h : ℕ) (x : Fact) (rule : 
         lost = lost-one;
         follows = stays;
         symmetric = symmetric-with facts x;
+        plain = plain_one;
       }
+
+-- where a rule gives a new fact, one is missing
+pub more_left : (problem : Problem) (facts : Facts) → CanGoOn problem facts → 1 ≤ missing problem facts
+more_left problem facts (n, f, g, h, rule, is, a) = omega (arith, lost-one problem facts n f g h rule.gives rule is a refl)
 
 pub one : (problem : Problem) (facts : Facts) (n f g h : ℕ) (x : Fact) → given problem facts (rule_named problem 2 n f g h) ≡ Some x → Stepped problem facts (with_fact x facts) (Step n f g h ∷ [])
 one problem facts n f g h x e = let p = given-some problem facts (rule_named problem 2 n f g h) x e in one_rule problem facts n f g h x p.0 p.1 p.2 p.3
 
 pub none : (problem : Problem) (facts : Facts) → Stepped problem facts facts []
-none problem facts = record { trees = λ b p m. refl; lows = λ b p m. refl; units = refl; least = λ low. refl; grows = λ x e. e; lost = omega arith; follows = λ o s c w. w; symmetric = λ s. s }
+none problem facts = record { trees = λ b p m. refl; lows = λ b p m. refl; units = refl; least = λ low. refl; grows = λ x e. e; lost = omega arith; follows = λ o s c w. w; symmetric = λ s. s; plain = λ p. p }
 
 pub units-append : (xs ys : List Record) → units_of (xs ++ ys) ≡ units_of xs + units_of ys
 units-append xs ys = sum_by-append (λ r. cond (is_unit r) 1 0) xs ys
@@ -190,6 +255,7 @@ both problem a b c s t p q =
       lost = omega (arith, p.lost, q.lost, length-append s t);
       follows = λ o sy cl w. q.follows o sy cl (p.follows o sy cl w);
       symmetric = λ sy. q.symmetric (p.symmetric sy);
+      plain = λ pl. q.plain (p.plain pl);
     }
 
 pub stepped : (problem : Problem) (facts : Facts) (steps : List Record) (gives : List Fact) → Steps problem facts steps gives → Stepped problem facts (after facts gives) steps

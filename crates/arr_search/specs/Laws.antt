@@ -13,10 +13,12 @@ use Rattle.arr_law.specs.Problem.{Problem}
 use Rattle.arr_law.specs.Facts.{Facts, with_fact, root_facts}
 use Rattle.arr_law.specs.Leaves.{is_leaf, worth}
 use Rattle.arr_law.specs.Trees.{may_branch, is_dead}
-use Rattle.arr_law.specs.Floor.{floor, IsClosed, IsClosure, Follows}
+use Rattle.arr_law.specs.Floor.{floor, IsClosed, IsClosure}
 use Rattle.arr_law.specs.ProblemOf.{problem_of}
-use Rattle.arr_search.specs.Counts.{missing}
-use Rattle.arr_search.specs.Steps.{Steps, Pays, after}
+use Rattle.arr_state.specs.Known.{after}
+use Rattle.arr_state.specs.Steps.{Steps}
+use Rattle.arr_state.specs.Went.{CanGoOn}
+use Rattle.arr_search.specs.Steps.{Pays}
 use Rattle.arr_search.specs.Found.{IsFound}
 use Rattle.arr_search.specs.Running.{IsAmple, IsReady, Running}
 
@@ -61,7 +63,7 @@ Leaves =
     → IsTrue (is_leaf problem (after facts gives) charges) → floor problem (after facts gives) ≤ worth problem charges
     → (length steps ≡ 0) ⊎ (floor problem facts < cost) → units + length steps ≤ budget
     → (worth problem charges < cost → units + length steps ≡ budget)
-    → IsClosed problem (after facts gives) ⊎ ((cost ≤ worth problem charges) ⊎ ((units + length steps ≡ budget) × (1 ≤ missing problem (after facts gives))))
+    → IsClosed problem (after facts gives) ⊎ ((cost ≤ worth problem charges) ⊎ ((units + length steps ≡ budget) × CanGoOn problem (after facts gives)))
     → Running problem greedy budget pending ((tree ++ steps) ++ Worth charges ∷ []) (units + length steps) (min least (worth problem charges)) cost
 
 -- once no node is left

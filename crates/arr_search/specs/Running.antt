@@ -8,7 +8,7 @@ use Rattle.arr_law.specs.Trees.{walk}
 use Rattle.arr_law.specs.Floor.{Within, IsSymmetric, Follows, floor, kept_apart}
 use Rattle.arr_search.specs.Counts.{open_pairs}
 use Rattle.arr_search.specs.Found.{units_of, least_of, are_low, node_most}
-use Rattle.arr_search.specs.Steps.{Pays}
+use Rattle.arr_search.specs.Steps.{Pays, IsPlain}
 
 -- how many nodes a tree may have whose root has q open pairs
 abbrev pub size : ℕ → ℕ
@@ -45,6 +45,7 @@ pub record Running (problem : Problem) (greedy budget : ℕ) (pending : List Fac
   pub spent : least < cost → units ≡ budget
   pub roots : AllByRecursion (Within (root_facts problem)) pending
   pub symmetric : AllByRecursion IsSymmetric pending
+  pub plain : AllByRecursion IsPlain pending
   pub ready : IsAmple problem budget → AllByRecursion (IsReady problem) pending ⊎ ((units ≡ 0) × (pending ≡ root_facts problem ∷ []))
   pub over_floor : floor problem (kept_apart problem) ≤ least
   pub over_closure : (facts : Facts) → Follows problem facts → IsAmple problem budget → floor problem facts ≤ least
