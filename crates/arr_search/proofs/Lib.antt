@@ -3,3 +3,4 @@ pub mod Counts
 pub mod Stepped
 pub mod Running
 pub mod Lists
+pub mod Accepted

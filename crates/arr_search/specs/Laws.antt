@@ -1,9 +1,10 @@
 -- What a search may do at a node, and what it has at its end.
-use Rattle.std.specs.Prelude.{◌≡◌, ℕ, ◌+◌, ◌*◌, ◌<◌, ◌≤◌, List, [], ◌∷◌, ◌++◌, ◌⊎◌, length, min, IsTrue}
+use Rattle.std.specs.Prelude.{◌≡◌, ℕ, ◌+◌, ◌*◌, ◌<◌, ◌≤◌, List, [], ◌∷◌, ◌++◌, ◌⊎◌, length, min, IsTrue, None}
 use Rattle.arr_ops.specs.declared.op.Op.{Op}
 use Rattle.arr_ops.specs.Formed.{is_formed}
 use Rattle.arr_ops.specs.Plans.{is_legal}
 use Rattle.arr_ops.specs.Costs.{cost}
+use Rattle.arr_law.specs.declared.certificate.Certificate.{Certificate}
 use Rattle.arr_law.specs.declared.charge.Charge.{Charge}
 use Rattle.arr_law.specs.declared.fact.Fact.{Fact}
 use Rattle.arr_law.specs.declared.fact.Fact.TheVariants.{Same, Apart}
@@ -12,7 +13,9 @@ use Rattle.arr_law.specs.declared.record.Record.TheVariants.{Branch, Dead, Worth
 use Rattle.arr_law.specs.Problem.{Problem}
 use Rattle.arr_law.specs.Facts.{Facts, with_fact, root_facts}
 use Rattle.arr_law.specs.Leaves.{is_leaf, worth}
-use Rattle.arr_law.specs.Trees.{may_branch, is_dead}
+use Rattle.arr_law.specs.Trees.{may_branch, is_dead, walk, Whole}
+use Rattle.arr_law.specs.Plans.{price}
+use Rattle.arr_law.specs.Verdict.{accepts, plan_fault}
 use Rattle.arr_law.specs.Floor.{floor, IsClosed, IsClosure}
 use Rattle.arr_law.specs.ProblemOf.{problem_of}
 use Rattle.arr_state.specs.Known.{after}
@@ -83,3 +86,9 @@ FindsClosure =
 abbrev pub StepsAreFew : Type 0
 StepsAreFew =
     (problem : Problem) (facts : Facts) (steps : List Record) (gives : List Fact) → Steps problem facts steps gives → length steps ≤ 3 * (problem.count * problem.count)
+
+-- a certificate with a legal plan, its cost and a tree that shows the bound is accepted
+abbrev pub TreesAreAccepted : Type 0
+TreesAreAccepted =
+    (problem : Problem) (c : Certificate) → c.version ≡ 2 → c.count ≡ problem.count → plan_fault problem c.places ≡ None → c.cost ≡ price problem c.places
+    → walk problem 2 c.bound (root_facts problem ∷ []) c.tree ≡ Whole [] → IsTrue (accepts problem c)

@@ -1,5 +1,5 @@
 //! Laws of a search. Each function does nothing: its contract is the law.
-ghost use Rattle.arr_search.specs.Laws.{Branches, Dies, FindsClosure, Finishes, Improves, Leaves, PlansPay, Starts, StepsAreFew};
+ghost use Rattle.arr_search.specs.Laws.{Branches, Dies, FindsClosure, Finishes, Improves, Leaves, PlansPay, Starts, StepsAreFew, TreesAreAccepted};
 
 /// What a legal plan of a formed list costs is no less than any floor under facts that follow (docs/CERTIFICATES.md, "Floors").
 pub fn plans_pay()
@@ -45,4 +45,10 @@ pub fn finds_closure()
 /// No more steps than three for each two operations can be taken (docs/CERTIFICATES.md, "Rules").
 pub fn steps_are_few()
     ensures { StepsAreFew }
+{}
+
+/// A certificate with a legal plan at its cost, and with a tree that is read as whole under the bound, is accepted
+/// (docs/CERTIFICATES.md, "Searching").
+pub fn trees_are_accepted()
+    ensures { TreesAreAccepted }
 {}

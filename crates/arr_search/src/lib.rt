@@ -13,4 +13,5 @@ mod laws;
 
 pub use laws::{
     branches, dies, finds_closure, finishes, improves, leaves, plans_pay, starts, steps_are_few,
+    trees_are_accepted,
 };
