@@ -7,3 +7,4 @@ pub mod Went
 pub mod States
 pub mod Opening
 pub mod Laws
+pub mod Examples
