@@ -43,8 +43,8 @@ fn elem_of(list: &[Op], base: u32) -> Elem
     Elem::U8
 }
 
-/// What one view weighs in a list, in bytes.
-pub(crate) fn view_weight(list: &[Op], view: &View) -> u64
+/// What one view weighs in a list, in bytes: what its elements take in the type of its base (docs/PLANS.md, "Cost"). It takes no memory.
+pub fn view_weight(list: &[Op], view: &View) -> u64
     ensures value { result ≡ weight list.now view.now }
     ensures small { result ≤ 8388608 }
 {
