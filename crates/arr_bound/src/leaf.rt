@@ -1,5 +1,5 @@
 //! The leaf: for each class of views the operations that pay for it.
-ghost use Rattle.std.specs.Prelude.{◌≡◌, ◌≤◌, ◌<◌, ◌+◌, ◌*◌, ◌/◌, ◌%◌, ◌==◌, ◌&&◌, ◌||◌, ◌∷◌, ℕ, List, true, cond, IfOk, IsTrue, OnOk, length};
+ghost use Rattle.std.specs.Prelude.{◌≡◌, ◌≤◌, ◌<◌, ◌+◌, ◌*◌, ◌/◌, ◌%◌, ◌==◌, ◌&&◌, ◌||◌, ◌∷◌, ℕ, List, true, false, cond, IfOk, IsTrue, OnOk, length};
 ghost use Rattle.std.specs.Int.{bit_at};
 ghost use Rattle.std.specs.List.{list_any};
 ghost use Rattle.std.specs.Option.{option_to_list};
@@ -7,6 +7,9 @@ ghost use Rattle.arr_view.specs.Views.{identical};
 ghost use Rattle.arr_ops.specs.Ops.{views};
 ghost use Rattle.arr_sets.specs.Bits.{is_set};
 ghost use Rattle.arr_law.specs.Facts.{Facts};
+ghost use Rattle.arr_law.specs.Floor.{IsSymmetric};
+ghost use Rattle.arr_law.specs.declared.fact.Fact.TheVariants.{Apart};
+ghost use Rattle.arr_state.specs.States.{known};
 ghost use Rattle.arr_law.specs.ProblemOf.{numbered_view, op_at, problem_of, view_at};
 ghost use Rattle.arr_bound.specs.Classes.{IsClass};
 ghost use Rattle.arr_bound.specs.Sets.{in_row, IsTable};
@@ -15,9 +18,11 @@ ghost use Rattle.arr_bound.specs.Worth.{in_rows, IsLargeLeaf, Joined, LeafBelow,
 use crate::NoMemory;
 use crate::classes::{Class, Views, is_operand, writes};
 use crate::picks::picks_of;
+use crate::rows::apart_rows;
 use arr_law::{Charge, Charges, OpList};
 use arr_ops::Op;
 use arr_sets::MOST;
+use arr_state::State;
 use arr_view::View;
 use std::alloc::Global;
 
@@ -116,10 +121,9 @@ fn join_class(
     Ok(rise)
 }
 
-/// A lawful leaf under what is known, with its worth in bytes: for each class of views the first operations that surely pay for it and are
-/// pairwise apart, two at least where two such are apart (docs/CERTIFICATES.md, "Leaves"). What is known is told by rows of words: bit g of row
-/// f, from row 0 on, says that operations f and g stand apart. Want of memory is its one refusal.
-pub fn charges(alloc: Global, views: &Views, apart: &[u64]) -> Result<(u64, Charges), NoMemory>
+/// A lawful leaf under what the rows tell, with its worth in bytes: bit g of row f, from row 0 on, says that operations f and g are known to stand
+/// apart.
+fn leaf_by(alloc: Global, views: &Views, apart: &[u64]) -> Result<(u64, Charges), NoMemory>
     requires { IsTable (length views.now) apart.now }
     ensures { IfOk result (λ (worth, groups). (facts : Facts) → TellsApart (problem_of views.now) facts apart.now → IsLargeLeaf (problem_of views.now) facts worth groups) }
 {
@@ -130,4 +134,16 @@ pub fn charges(alloc: Global, views: &Views, apart: &[u64]) -> Result<(u64, Char
         worth += join_class(alloc, &mut groups, views.ops.as_slice(), at, class, apart)?;
     }
     Ok((worth, groups))
+}
+
+/// A lawful leaf under what a state of the list knows, with its worth in bytes: for each class of views the first operations that surely pay for it
+/// and are pairwise apart, two at least where two such are apart (docs/CERTIFICATES.md, "Leaves"). Want of memory is its one refusal.
+pub fn charges(alloc: Global, views: &Views, state: &State) -> Result<(u64, Charges), NoMemory>
+    requires list { state.now.list ≡ views.now }
+    requires even { IsSymmetric (known state.now) }
+    requires plain { (f : ℕ) → known state.now (Apart f f) ≡ false }
+    ensures { IfOk result (λ (worth, groups). IsLargeLeaf (problem_of views.now) (known state.now) worth groups) }
+{
+    let apart = apart_rows(alloc, state, views.ops.len() as u32)?;
+    leaf_by(alloc, views, apart.as_slice())
 }

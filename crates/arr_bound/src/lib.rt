@@ -1,6 +1,6 @@
 //! What every plan pays that meets what is known: the leaf of a search.
 //!
-//! The promise: `charges` gives a lawful leaf under what is known of the operations of a list, with its worth. The worth is no less than the
+//! The promise: `charges` gives a lawful leaf under what a state of a list knows, with its worth. The worth is no less than the
 //! floor, and it is no less than what a plan costs of which all is known. `Views` keeps what each class of identical views is to a leaf: what it
 //! weighs, which operations read and write it, and which one makes and which one ends its base; it is made once for a list.
 //!
@@ -14,6 +14,7 @@
 mod classes;
 mod leaf;
 mod picks;
+mod rows;
 mod sets;
 
 pub use classes::Views;

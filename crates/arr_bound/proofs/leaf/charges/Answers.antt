@@ -1,24 +1,28 @@
-use Rattle.std.proofs.Common.{◌≡◌, ◌+◌, ℕ, List, length, ◌∙◌, ap, subst, arith}
+use Rattle.std.proofs.Common.{◌≡◌, ℕ, ◌≤◌, ◌+◌, ◌/◌, ◌∙◌, List, length, ap, sym, subst}
+use Rattle.std.specs.Prelude.{nat_le}
+use Rattle.std.proofs.lemmas.Bool.{and_parts, leb-true}
+use Rattle.std.proofs.lemmas.Result.{IfOk-weaker}
 use Rattle.arr_ops.specs.declared.op.Op.{Op}
-use Rattle.arr_law.specs.Facts.{Facts}
-use Rattle.arr_law.specs.ProblemOf.{problem_of, views_of}
-use Rattle.arr_bound.specs.Worth.{LeafBelow, TellsApart}
-use Rattle.arr_bound.proofs.Large.{leaf_none, leaf_whole}
+use Rattle.arr_law.specs.declared.fact.Fact.TheVariants.{Apart}
+use Rattle.arr_state.specs.States.{known}
+use Rattle.arr_bound.specs.Sets.{in_row, IsTable}
+use Rattle.arr_bound.proofs.Filled.{filled_table}
 use Rattle.arr_bound.proofs.leaf.charges.Goals as goal
 
-pub loop-at-init : goal.loop-at-init
-loop-at-init c = record { small = omega arith; below = λ facts tells. leaf_none (problem_of c.args.views.now) facts c.new-groups.result c.new-groups.ensures }
-
-pub loop-at-preserved : goal.loop-at-preserved
-loop-at-preserved c =
-    record {
-      small = omega (arith, c.loop-at.invariant.small, c.in_ok-worth.ensures.small);
-      below = λ facts tells.
-          subst (λ (list : List Op). (facts : Facts) (worth : ℕ) → TellsApart (problem_of list) facts c.args.apart.now → LeafBelow (problem_of list) facts c.loop-at.at worth c.loop-at.groups → LeafBelow (problem_of list) facts (c.loop-at.at + 1) (worth + c.in_ok-worth.field-0) c.join_class.new.groups)
-          (c.as_slice.ensures.value ∙ c.views.view_is) c.in_ok-worth.ensures.below facts c.loop-at.worth tells (c.loop-at.invariant.below facts tells);
-    }
+pub leaf_by-requires : goal.leaf_by-requires
+leaf_by-requires c =
+    let count : c.len.result ≡ length c.args.views.now = c.len.ensures ∙ c.views.inside.ops.ok.0 ∙ ap (λ (list : List Op). length list) c.views.view_is in
+    subst (IsTable (length c.args.views.now)) (sym c.as_slice.ensures.value)
+    (subst (λ (n : ℕ). IsTable n c.in_ok-apart.apart.items) count
+    (filled_table c.len.result (known c.args.state.now) c.in_ok-apart.apart.items c.in_ok-apart.ensures.long c.in_ok-apart.ensures.told c.requires.even c.requires.plain))
 
 pub returns : goal.returns
-returns c = λ facts tells.
-    let long : length c.views.inside.classes.items ≡ length (views_of c.args.views.now) = c.views.invariant.2.long ∙ ap (λ (list : List Op). length (views_of list)) c.views.view_is in
-    leaf_whole (problem_of c.args.views.now) facts c.loop-at.at c.loop-at.worth c.loop-at.groups (omega (arith, long, c.loop-at-test.false, c.loop-at.auto.at-end, c.len-at-end.ensures, c.views.inside.classes.ok.0)) (c.loop-at.invariant.below facts tells)
+returns c =
+    let list = c.args.views.now in
+    let count : c.len.result ≡ length list = c.len.ensures ∙ c.views.inside.ops.ok.0 ∙ ap (λ (list : List Op). length list) c.views.view_is in
+    let told : (f g : ℕ) → f ≤ length list → g ≤ length list → in_row (length list / 64 + 1) c.as_slice.result.now f g ≡ known c.args.state.now (Apart f g) =
+    subst (λ (rows : List ℕ). (f g : ℕ) → f ≤ length list → g ≤ length list → in_row (length list / 64 + 1) rows f g ≡ known c.args.state.now (Apart f g)) (sym c.as_slice.ensures.value)
+    (subst (λ (n : ℕ). (f g : ℕ) → f ≤ n → g ≤ n → in_row (n / 64 + 1) c.in_ok-apart.apart.items f g ≡ known c.args.state.now (Apart f g)) count c.in_ok-apart.ensures.told) in
+    IfOk-weaker c.leaf_by.result _ _
+    (λ x large. large (known c.args.state.now) (λ f g of og. told f g (leb-true f (length list) (and_parts (nat_le 1 f) (nat_le f (length list)) of).1) (leb-true g (length list) (and_parts (nat_le 1 g) (nat_le g (length list)) og).1)))
+    c.leaf_by.ensures

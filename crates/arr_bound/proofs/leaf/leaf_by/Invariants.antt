@@ -2,7 +2,7 @@ use Rattle.std.proofs.Common.{◌≤◌, ◌*◌}
 use Rattle.arr_law.specs.Facts.{Facts}
 use Rattle.arr_law.specs.ProblemOf.{problem_of}
 use Rattle.arr_bound.specs.Worth.{LeafBelow, TellsApart}
-use Rattle.arr_bound.proofs.leaf.charges.Given as goal
+use Rattle.arr_bound.proofs.leaf.leaf_by.Given as goal
 
 abbrev pub invariant-loop-at : goal.invariant-loop-at
 invariant-loop-at l = record {
