@@ -1,10 +1,10 @@
 -- Where a bit is 0, a rule gives nothing.
-use Rattle.std.proofs.Common.{◌≡◌, ◌≢◌, ℕ, zero, suc, ◌+◌, ◌-◌, ◌*◌, ◌/◌, ◌%◌, ◌^◌, ◌<◌, ◌≤◌, List, get_or, min, Bool, true, false, cond, ◌&&◌, Some, None, refl, sym, ap, ◌∙◌, subst, arith, ⊎_elim}
+use Rattle.std.proofs.Common.{◌≡◌, ◌≢◌, ℕ, zero, suc, ◌+◌, ◌-◌, ◌*◌, ◌/◌, ◌%◌, ◌^◌, ◌<◌, ◌≤◌, List, get_or, min, Bool, true, false, cond, not, ◌&&◌, Some, None, refl, sym, ap, ◌∙◌, subst, arith, ⊎_elim}
 use Rattle.std.specs.Prelude.{bit_and, bit_xor}
 use Rattle.std.specs.List.{list_all}
 use Rattle.std.specs.Int.{bit_at}
 use Rattle.std.proofs.lemmas.Nat.{and_le_l}
-use Rattle.std.proofs.lemmas.Nat.Bits.{bit_at_and, bit_at_xor, bit_at-lt, bit_at_ones, bit_at-zero}
+use Rattle.std.proofs.lemmas.Nat.Bits.{bit_at_and, bit_at_xor, bit_at-lt, bit_at-zero}
 use Rattle.std.proofs.lemmas.Bool.{and_from, true≢false, cases_eq, cases_lt}
 use Rattle.arr_law.specs.declared.fact.Fact.TheVariants.{Same, Apart, Before}
 use Rattle.arr_law.specs.Problem.{Problem, ends_base_of}
@@ -15,6 +15,8 @@ use Rattle.arr_state.specs.declared.jobs.Job.{Job}
 use Rattle.arr_state.specs.declared.jobs.Job.TheVariants.{Behind, Front, Frees}
 use Rattle.arr_state.specs.Steps.{are_lawful}
 use Rattle.arr_state.specs.Rows.{bit, row_of, said, AreRowed, sifted, word_at, put_in}
+use Rattle.arr_state.specs.declared.sift.Sieve.{Sieve}
+use Rattle.arr_state.specs.Sieves.{sieve_at, FitsIn, IsSieve}
 use Rattle.arr_state.specs.Jobs.{Tried, TriedAt, SiftBelow, WordTried, RestTried, Quiet}
 use Rattle.arr_state.proofs.Basics.{two_of, three_of}
 use Rattle.arr_state.proofs.Spelled.{turned_is}
@@ -128,16 +130,6 @@ pub frees9 : (problem : Problem) (rows : List ℕ) (facts : Facts) (i word u f :
 frees9 problem rows facts i word u f r room ou of is k l e user =
     free_tried problem f (64 * i + k) facts facts (λ ends. sift_at problem rows facts r i k room l 4 u 4 f 0 f word (omega arith) (omega arith) (omega arith) ou of of is e user ends)
 
--- a word of ones leaves nothing out
-pub loud : (problem : Problem) (job : Job) (base : ℕ) (facts : Facts) → Quiet problem job base (2 ^ 64 - 1) facts
-loud problem job base facts k l e = absurd (let h : bit_at (2 ^ 64 - 1) k ≡ 1 = bit_at_ones 64 k l in omega (arith, h, e))
-
-pub quiet_as : (problem : Problem) (n m f g base word : ℕ) (facts : Facts) → n ≡ m → Quiet problem (Behind m f g) base word facts → Quiet problem (Behind n f g) base word facts
-quiet_as problem n m f g base word facts e q = subst (λ a. Quiet problem (Behind a f g) base word facts) (sym e) q
-
-pub quiet_front_as : (problem : Problem) (n m f g base word : ℕ) (facts : Facts) → n ≡ m → Quiet problem (Front m f g) base word facts → Quiet problem (Front n f g) base word facts
-quiet_front_as problem n m f g base word facts e q = subst (λ a. Quiet problem (Front a f g) base word facts) (sym e) q
-
 -- one more bit
 pub rest_step : (problem : Problem) (job : Job) (base word bits k : ℕ) (a b c : Facts) → k < 64 → Within a b → Within b c → RestTried problem job base word bits a b → TriedAt problem job (base + k) b c → RestTried problem job base word (put_in bits k false) a c
 rest_step problem job base word bits k a b c small l m old new j lj one gone =
@@ -180,17 +172,46 @@ put_less bits k l one =
 pub sift_end : (problem : Problem) (job : Job) (i : ℕ) (a b : Facts) → problem.count / 64 + 1 ≤ i → SiftBelow problem (64 * i) job a b → SiftBelow problem (problem.count + 1) job a b
 sift_end problem job i a b l t c lc = t c (omega (arith, l, lc))
 
--- where a premise that no third is part of is not known, a rule gives nothing
-pub behind7_none : (problem : Problem) (n f g base word : ℕ) (facts : Facts) (b : Bool) → n ≡ 7 → b ≡ (facts (Before f g) && facts (Apart f g)) → b ≡ false → Quiet problem (Behind n f g) base word facts
-behind7_none problem n f g base word facts b seven e isnt =
-    quiet_as problem n 7 f g base word facts seven (λ k l z.
-    as_rule problem 7 f g (base + k) facts facts (rule7 f g (base + k)) refl (λ ok known.
-    let h = three_of (facts (Before f g)) (facts (Before g (base + k))) (facts (Apart f g)) known in
+-- where a premise of which the open place is no part is missing, a job gives nothing
+pub idle7 : (problem : Problem) (n f g : ℕ) (facts : Facts) (b : Bool) → b ≡ (facts (Before f g) && facts (Apart f g)) → n ≡ 7 → b ≡ false → (c : ℕ) → TriedAt problem (Behind n f g) c facts facts
+idle7 problem n f g facts b e seven isnt c =
+    subst (λ m. TriedAt problem (Behind m f g) c facts facts) (sym seven)
+    (as_rule problem 7 f g c facts facts (rule7 f g c) refl (λ ok known.
+    let h = three_of (facts (Before f g)) (facts (Before g c)) (facts (Apart f g)) known in
     absurd (true≢false (sym (e ∙ and_from (facts (Before f g)) (facts (Apart f g)) h.0 h.2) ∙ isnt))))
 
-pub front8_none : (problem : Problem) (n f g base word : ℕ) (facts : Facts) (b : Bool) → n ≡ 8 → b ≡ (facts (Before f g) && facts (Apart f g)) → b ≡ false → Quiet problem (Front n f g) base word facts
-front8_none problem n f g base word facts b eight e isnt =
-    quiet_front_as problem n 8 f g base word facts eight (λ k l z.
-    as_rule problem 8 (base + k) f g facts facts (rule8 (base + k) f g) refl (λ ok known.
-    let h = three_of (facts (Before (base + k) f)) (facts (Before f g)) (facts (Apart f g)) known in
+pub idle8 : (problem : Problem) (n f g : ℕ) (facts : Facts) (b : Bool) → b ≡ (facts (Before f g) && facts (Apart f g)) → n ≡ 8 → b ≡ false → (c : ℕ) → TriedAt problem (Front n f g) c facts facts
+idle8 problem n f g facts b e eight isnt c =
+    subst (λ m. TriedAt problem (Front m f g) c facts facts) (sym eight)
+    (as_rule problem 8 c f g facts facts (rule8 c f g) refl (λ ok known.
+    let h = three_of (facts (Before c f)) (facts (Before f g)) (facts (Apart f g)) known in
     absurd (true≢false (sym (e ∙ and_from (facts (Before f g)) (facts (Apart f g)) h.1 h.2) ∙ isnt))))
+
+pub idle_when : (problem : Problem) (job : Job) (facts : Facts) (a b : Bool) → (a ≡ true → b ≡ false → (c : ℕ) → TriedAt problem job c facts facts) → (a && not b) ≡ true → (c : ℕ) → TriedAt problem job c facts facts
+idle_when problem job facts true false f e = f refl refl
+idle_when problem job facts true true f e = absurd (true≢false (sym e))
+idle_when problem job facts false b f e = absurd (true≢false (sym e))
+
+-- ---- sieves
+
+-- what three rows leave out is quiet, by a lemma of a rule
+abbrev pub IsQuiet : Problem → Job → ℕ → ℕ → ℕ → ℕ → ℕ → ℕ → Type 0
+IsQuiet problem job p f q g r h =
+    (rows : List ℕ) (facts : Facts) → AreRowed problem.count (ends_base_of problem) rows facts → IsSymmetric facts → (i word : ℕ) → i ≤ problem.count / 64
+    → word ≡ sifted (word_at problem.count rows p f i) (word_at problem.count rows q g i) (word_at problem.count rows r h i) → Quiet problem job (64 * i) word facts
+
+pub sieve_is : (problem : Problem) (job : Job) (p f q g r h : ℕ) (s : Sieve) → s ≡ sieve_at problem.count p f q g r h → FitsIn problem.count s → IsQuiet problem job p f q g r h → IsSieve problem job s
+sieve_is problem job p f q g r h s e fits quiet =
+    record {
+      fits = fits;
+      quiet = λ rows facts rowed even i room.
+          subst (λ (z : Sieve). Quiet problem job (64 * i) (sifted (get_or rows (z.first + i) 0) (get_or rows (z.second + i) 0) (get_or rows (z.third + i) 0)) facts) (sym e)
+          (quiet rows facts rowed even i _ room refl);
+    }
+
+-- a rule's number that is another's
+pub sieve_behind : (problem : Problem) (n m f g : ℕ) (s : Sieve) → n ≡ m → IsSieve problem (Behind m f g) s → IsSieve problem (Behind n f g) s
+sieve_behind problem n m f g s e q = subst (λ a. IsSieve problem (Behind a f g) s) (sym e) q
+
+pub sieve_front : (problem : Problem) (n m f g : ℕ) (s : Sieve) → n ≡ m → IsSieve problem (Front m f g) s → IsSieve problem (Front n f g) s
+sieve_front problem n m f g s e q = subst (λ a. IsSieve problem (Front a f g) s) (sym e) q

@@ -2,6 +2,7 @@ pub mod Known
 pub mod Rows
 pub mod Steps
 pub mod Jobs
+pub mod Sieves
 pub mod Kept
 pub mod Went
 pub mod States

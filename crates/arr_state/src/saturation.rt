@@ -6,6 +6,7 @@ ghost use Rattle.arr_law.specs.ProblemOf.{problem_of};
 ghost use Rattle.arr_state.specs.Jobs.{AllFreesBelow, AreTouched, Covered, FreesBelow, IsTouched, JobTried, JobsBelow, Tried, TriedAt, WordTried};
 ghost use Rattle.arr_state.specs.Kept.{IsKept};
 ghost use Rattle.arr_state.specs.Known.{HoldRoots};
+ghost use Rattle.arr_state.specs.Sieves.{IsSieve};
 ghost use Rattle.arr_state.specs.States.{IsEnded, Saturated};
 ghost use Rattle.arr_state.specs.Went.{Went};
 
@@ -16,7 +17,7 @@ use crate::known::{Known, add, count_of};
 use crate::outcome::{Going, Outcome};
 use crate::rows::put_bit;
 use crate::rules::step;
-use crate::sift::sift;
+use crate::sift::{Sieve, is_idle, sieve_of, sifted};
 use arr_law::{Fact, Record, Records};
 use arr_ops::Op;
 
@@ -100,8 +101,33 @@ fn try_word(
     Ok(Going::On(left))
 }
 
-/// Tries a job with each operation at which it may give something.
-fn try_sifted(
+/// Tries a job with each operation that its sieve leaves.
+fn try_rows(
+    ops: &[Op],
+    known: &mut Known,
+    tree: &mut Records,
+    mut left: u64,
+    job: Job,
+    sieve: Sieve,
+) -> Result<Going, NoMemory>
+    requires kept { IsKept (problem_of ops.now) known.old }
+    requires sieve { IsSieve (problem_of ops.now) job sieve }
+    ensures kept { IsKept (problem_of ops.now) known.new }
+    ensures went { IfOk result (λ going. Went (problem_of ops.now) known.old known.new tree.old tree.new left going (JobTried (problem_of ops.now) job)) }
+{
+    for i in 0..count_of(ops) / 64 + 1 {
+        let word = sifted(ops, known, sieve, i);
+        match try_word(ops, known, tree, left, job, 64 * i, word)? {
+            Going::On(rest) => left = rest,
+            Going::Clash(x, y) => return Ok(Going::Clash(x, y)),
+            Going::NoneLeft => return Ok(Going::NoneLeft),
+        }
+    }
+    Ok(Going::On(left))
+}
+
+/// Tries a job with each operation.
+fn try_each(
     ops: &[Op],
     known: &mut Known,
     tree: &mut Records,
@@ -112,9 +138,8 @@ fn try_sifted(
     ensures kept { IsKept (problem_of ops.now) known.new }
     ensures went { IfOk result (λ going. Went (problem_of ops.now) known.old known.new tree.old tree.new left going (JobTried (problem_of ops.now) job)) }
 {
-    for i in 0..count_of(ops) / 64 + 1 {
-        let word = sift(ops, known, job, i);
-        match try_word(ops, known, tree, left, job, 64 * i, word)? {
+    for c in 0..count_of(ops) + 1 {
+        match try_at(ops, known, tree, left, job, c)? {
             Going::On(rest) => left = rest,
             Going::Clash(x, y) => return Ok(Going::Clash(x, y)),
             Going::NoneLeft => return Ok(Going::NoneLeft),
@@ -135,9 +160,15 @@ fn try_job(
     ensures kept { IsKept (problem_of ops.now) known.new }
     ensures went { IfOk result (λ going. Went (problem_of ops.now) known.old known.new tree.old tree.new left going (JobTried (problem_of ops.now) job)) }
 {
-    match job {
-        Job::Two(rule, f, g) => attempt(ops, known, tree, left, rule, f, g, 0),
-        _ => try_sifted(ops, known, tree, left, job),
+    if let Job::Two(rule, f, g) = job {
+        return attempt(ops, known, tree, left, rule, f, g, 0);
+    }
+    if is_idle(ops, known, job) {
+        return Ok(Going::On(left));
+    }
+    match sieve_of(ops, job) {
+        Some(sieve) => try_rows(ops, known, tree, left, job, sieve),
+        None => try_each(ops, known, tree, left, job),
     }
 }
 

@@ -4,7 +4,7 @@ use Rattle.arr_state.specs.declared.outcome.Going.TheVariants.{On}
 use Rattle.arr_state.specs.Kept.{IsKept}
 use Rattle.arr_state.specs.Went.{Went}
 use Rattle.arr_state.specs.Jobs.{SiftBelow}
-use Rattle.arr_state.proofs.saturation.try_sifted.Given as goal
+use Rattle.arr_state.proofs.saturation.try_rows.Given as goal
 
 abbrev pub invariant-loop-i : goal.invariant-loop-i
 invariant-loop-i l =
