@@ -13,6 +13,7 @@
 //! stands in `laws.rt`.
 #![tactic(auto)]
 
+mod checking;
 mod choice;
 mod flush;
 mod laws;
