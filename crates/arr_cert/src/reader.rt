@@ -136,6 +136,7 @@ impl Reader {
         ensures found { IfOk result (λ found. Finds found (unread S.Source self.old source.old) (unread S.Source self.new source.new) self.new.text.items) }
         ensures out { result ≡ Ok Found.Nothing → IsAtEnd (unread S.Source self.new source.new).bytes }
         ensures line { self.new.line ≡ self.old.line }
+        ensures next { self.old.next_line ≤ self.new.next_line }
         ensures over { self.new.over ≡ self.old.over }
         ensures met { HasMetEnd S.Source self.new source.new }
         ensures later { S.faults source.old ≤ S.faults source.new }
@@ -189,6 +190,8 @@ impl Reader {
         ensures item { IfOk result (λ item. Turns item (last_line self.new) (unread S.Source self.old source.old) (unread S.Source self.new source.new)) }
         ensures out { result ≡ Ok (Some Item.End) → IsAtEnd (unread S.Source self.new source.new).bytes }
         ensures behind { IfOk result (λ found. IfSome found (λ item. IsBehind item self.new.line self.new.next_line)) }
+        ensures line { self.new.line ≡ self.old.next_line }
+        ensures next { self.old.next_line ≤ self.new.next_line }
         ensures over { self.new.over ≡ self.old.over }
         ensures met { HasMetEnd S.Source self.new source.new }
         ensures later { S.faults source.old ≤ S.faults source.new }
@@ -225,6 +228,8 @@ impl Reader {
         ensures item { is_over self.old ≡ false → IfOk result (Gives S.Source self.old self.new source.old source.new) }
         ensures out { is_over self.old ≡ false → result ≡ Ok Item.End → IsAtEnd (unread S.Source self.new source.new).bytes }
         ensures behind { is_over self.old ≡ false → IfOk result (λ item. IsBehind item (last_line self.new) (next_line self.new)) }
+        ensures on { is_over self.old ≡ false → IfOk result (λ item. next_line self.old ≤ last_line self.new) }
+        ensures few { next_line self.new ≤ 67108865 }
         ensures ahead { ahead self.new ≤ 65536 }
         ensures ended { is_over self.old ≡ true → result ≡ Ok Item.End }
         ensures over { is_over self.new ≡ (is_over self.old || stops result) }

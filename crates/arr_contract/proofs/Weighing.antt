@@ -54,7 +54,7 @@ agreed f g p h a =
     (all_in (λ (p : ℕ × Elem). list_all (λ (q : ℕ × Elem). not (p.0 == q.0) || same_elem p.1 q.1) (typed g) ≡ true) (typed f)
     (all_of (λ (p : ℕ × Elem). list_all (λ (q : ℕ × Elem). not (p.0 == q.0) || same_elem p.1 q.1) (typed g)) (typed f) h) p a))
 
-types_agree : (list : List Op) → AllByRecursion (λ f. AllByRecursion (λ g. same_types f g ≡ true) list) list → AllByRecursion (λ f. AllByRecursion (λ (p : ℕ × Elem). elem_of list p.0 ≡ p.1) (typed f)) list
+pub types_agree : (list : List Op) → AllByRecursion (λ f. AllByRecursion (λ g. same_types f g ≡ true) list) list → AllByRecursion (λ f. AllByRecursion (λ (p : ℕ × Elem). elem_of list p.0 ≡ p.1) (typed f)) list
 types_agree list h =
     in_all (λ f. AllByRecursion (λ (p : ℕ × Elem). elem_of list p.0 ≡ p.1) (typed f)) list
     (λ f a. in_all (λ (p : ℕ × Elem). elem_of list p.0 ≡ p.1) (typed f)

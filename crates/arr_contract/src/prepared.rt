@@ -76,6 +76,7 @@ impl Prepared {
         ensures value { result.now ≡ self.now.ops }
         ensures block { IsTrue (may_share_block self.now.ops) }
         ensures few { length self.now.ops ≤ MOST }
+        ensures kept { length self.now.numbers ≡ scratch self.now.ops }
     {
         self.ops.as_slice()
     }

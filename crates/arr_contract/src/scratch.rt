@@ -10,26 +10,10 @@ ghost use Rattle.arr_ops.specs.Traffic.{axis_length, kept_for, out_positions, sc
 
 use crate::NoMemory;
 use arr_cost::block_views;
-use arr_num::Code;
 use arr_ops::{Op, Operand};
 use arr_overlap::{identical, overlaps};
 use arr_view::View;
 use std::alloc::Global;
-
-fn is_reduction(code: Code) -> bool
-    ensures { result ≡ is_reduction code }
-{
-    matches!(
-        code,
-        Code::AddReduce | Code::MultiplyReduce | Code::MinimumReduce | Code::MaximumReduce
-    )
-}
-
-fn is_scan(code: Code) -> bool
-    ensures { result ≡ is_scan code }
-{
-    matches!(code, Code::AddAccumulate | Code::MultiplyAccumulate)
-}
 
 /// Whether an output overlaps an input, if there is one, and is not that very view; for a reduction, whether it overlaps it at all.
 fn collides(
@@ -55,7 +39,7 @@ fn collides(
 fn is_serial(alloc: Global, op: &Op) -> Result<bool, NoMemory>
     ensures { IfOk result (λ r. r ≡ serial op.now) }
 {
-    let reduces = is_reduction(op.code);
+    let reduces = op.code.is_reduction();
     match &op.out {
         Some(out) => {
             if collides(alloc, out, op.first_view(), reduces)? {
@@ -129,7 +113,7 @@ fn kept_results(alloc: Global, op: &Op) -> Result<u64, NoMemory>
     ensures value { IfOk result (λ kept. kept ≡ cond (is_reduction op.now.code || serial op.now) (out_positions op.now) 0) }
     ensures few { IfOk result (λ kept. kept ≤ 1048576) }
 {
-    if is_reduction(op.code) {
+    if op.code.is_reduction() {
         return Ok(out_positions(op));
     }
     if is_serial(alloc, op)? {
@@ -143,7 +127,7 @@ fn kept_sums(op: &Op) -> u64
     ensures value { result ≡ cond (is_scan op.now.code) (out_positions op.now / axis_length op.now) 0 }
     ensures few { result ≤ 1048576 }
 {
-    if is_scan(op.code) {
+    if op.code.is_scan() {
         out_positions(op) / axis_length(op)
     } else {
         0

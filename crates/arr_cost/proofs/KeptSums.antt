@@ -17,8 +17,8 @@ use Rattle.arr_ops.proofs.FitsLaw.{all_append}
 use Rattle.arr_cost.specs.declared.footprints.Row.{Row}
 use Rattle.arr_cost.specs.declared.touches.Touch.{Touch}
 use Rattle.arr_cost.specs.declared.touches.Touches.{Touches}
-use Rattle.arr_cost.specs.Footprints.{bases_of, has_bit, is_class, join, keeps, keeps_class, loses, reads_class, row_for, span, weights_of, writes_class, IsFootprint}
-use Rattle.arr_cost.specs.Touches.{AreMarked, base_of, class_of, frees_number, kept, makes_number, outside, same_class, table_of, touch_of, touched_by, touches_of, untouched}
+use Rattle.arr_cost.specs.Footprints.{bases_of, is_class, join, keeps, keeps_class, loses, reads_class, row_for, span, weights_of, writes_class, IsFootprint}
+use Rattle.arr_cost.specs.Touches.{AreMarked, base_of, class_of, frees_number, kept, makes_number, outside, same_class, table_of, touched_by, touches_of}
 use Rattle.arr_cost.proofs.Digits.{or_bit, span_alike, span_longer, span_none, span_pick, span_saved, span_within}
 use Rattle.arr_cost.proofs.Prints.{any_touched}
 use Rattle.arr_cost.proofs.Touched.{all_after, all_before, any_either, any_flat, any_row, few_views, f_of, kept_rows, known_in, picked, picked_known, short_place, touched_cost, Among, Known}

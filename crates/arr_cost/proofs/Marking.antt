@@ -1,18 +1,15 @@
 -- Rows of marks, and sums over what is not seen yet.
 use Rattle.std.proofs.Common.{◌≡◌, ℕ, zero, suc, ◌+◌, ◌*◌, ◌<◌, ◌≤◌, List, [], ◌∷◌, ◌++◌, Bool, true, false, cond, not, ◌&&◌, ◌||◌, Option, Some, None, length, take, drop, get_or, set, replicate, refl, ap, ap₂, sym, subst, ◌∙◌, arith, append_assoc, eq-eqb}
 use Rattle.std.specs.Prelude.{◌==◌, nat_lt}
+use Rattle.std.proofs.Math.Bool.{or-false}
 use Rattle.std.specs.List.{filter, flat_map, list_any}
 use Rattle.std.proofs.lemmas.Bool.{and_from, and_parts, eqb-true, false≢true, lt-ltb, ltb-true}
-use Rattle.std.proofs.lemmas.List.{length-set, length-replicate, get_or-set_same, get_or-set_other, take_all, take_more}
+use Rattle.std.proofs.lemmas.List.{append-nil, drop_all, length-set, length-replicate, get_or-set_same, get_or-set_other, take_all, take_more}
 use Rattle.std.proofs.lemmas.List.Folds.{list_any-append}
 use Rattle.arr_ops.specs.Costs.{distinct, total}
 use Rattle.arr_cost.specs.declared.touches.Touch.{Touch}
 use Rattle.arr_cost.specs.declared.touches.Touches.{Touches}
 use Rattle.arr_cost.specs.Touches.{AreMarked, Counted, free_below, is_below, marks, outside, same_class, touch_below, touched_by, untouched}
-
-pub or_none : (b : Bool) → (b || false) ≡ b
-or_none true = refl
-or_none false = refl
 
 pub or_assoc : (a b c : Bool) → ((a || b) || c) ≡ (a || (b || c))
 or_assoc true b c = refl
@@ -27,7 +24,7 @@ pub marked_also : (xs : List Bool) (i b : ℕ) → i < length xs → get_or (set
 marked_also xs i b l =
     elim (i == b) as (λ t. (i == b) ≡ t → get_or (set xs i true) b false ≡ (get_or xs b false || t)) [
       | true ↦ λ e. let same : i ≡ b = eqb-true i b e in ap (λ k. get_or (set xs i true) k false) (sym same) ∙ get_or-set_same xs i true false l ∙ sym (or_true (get_or xs b false))
-      | false ↦ λ e. get_or-set_other xs i b true false (λ s. absurd (false≢true (sym e ∙ eq-eqb i b (omega arith)))) ∙ sym (or_none (get_or xs b false))
+      | false ↦ λ e. get_or-set_other xs i b true false (λ s. absurd (false≢true (sym e ∙ eq-eqb i b (omega arith)))) ∙ sym (or-false (get_or xs b false))
     ] refl
   where
     or_true : (b : Bool) → (b || true) ≡ true
@@ -55,7 +52,7 @@ touched_end table block i n l e = ap (touched_by table) (take_more block i 0 l �
 pub touched_more : (test : Touches → Bool) (table : List Touches) (block : List ℕ) (i n : ℕ) → i < length block → n ≡ get_or block i 0
     → list_any test (touched_by table (take (i + 1) block)) ≡ (list_any test (touched_by table (take i block)) || test (get_or table n untouched))
 touched_more test table block i n l e =
-    ap (list_any test) (touched_end table block i n l e) ∙ list_any-append test (touched_by table (take i block)) (get_or table n untouched ∷ []) ∙ ap (λ b. list_any test (touched_by table (take i block)) || b) (or_none (test (get_or table n untouched)))
+    ap (list_any test) (touched_end table block i n l e) ∙ list_any-append test (touched_by table (take i block)) (get_or table n untouched ∷ []) ∙ ap (λ b. list_any test (touched_by table (take i block)) || b) (or-false (test (get_or table n untouched)))
 
 pub kept_more : (K : Touches → List Touch) (table : List Touches) (block : List ℕ) (i n : ℕ) → i < length block → n ≡ get_or block i 0
     → flat_map K (touched_by table (take (i + 1) block)) ≡ flat_map K (touched_by table (take i block)) ++ K (get_or table n untouched)
@@ -129,7 +126,7 @@ counted_seen done more t seen sum e l h k =
           | true ↦ λ same. let there : list_any (λ (s : Touch). s.class == t.class) done ≡ true = sym (k.each t.class l) ∙ h in
               let here : list_any (λ (s : Touch). s.class == c) done ≡ true = subst (λ n. list_any (λ (s : Touch). s.class == n) done ≡ true) (eqb-true t.class c same) there in
               here ∙ sym (ap (λ b. b || true) here)
-          | false ↦ λ same. sym (or_none (list_any (λ (s : Touch). s.class == c) done))
+          | false ↦ λ same. sym (or-false (list_any (λ (s : Touch). s.class == c) done))
         ] refl
 
 pub counted_new : (done more : List Touch) (t : Touch) (seen : List Bool) (sum : ℕ) → more ≡ t ∷ [] → t.class < length seen → get_or seen t.class false ≡ false → Counted done seen sum → Counted (done ++ more) (set seen t.class true) (sum + t.weight)
@@ -141,7 +138,7 @@ counted_new done more t seen sum e l h k =
     = ap weight_in (distinct_end done t ∙ ap (λ b. distinct same_class done ++ cond b [] (t ∷ [])) absent) ∙ total_end (distinct same_class done) (t ∷ []) in
     subst (λ ts. Counted (done ++ ts) (set seen t.class true) (sum + t.weight)) (sym e) (record {
       each = λ c below. marked_also seen t.class c l
-          ∙ ap₂ (λ a b. a || b) (k.each c (omega arith)) (sym (or_none (t.class == c)))
+          ∙ ap₂ (λ a b. a || b) (k.each c (omega arith)) (sym (or-false (t.class == c)))
           ∙ sym (list_any-append (λ (s : Touch). s.class == c) done (t ∷ []));
       value = omega arith;
     })
@@ -185,18 +182,9 @@ touch_parts n o t e h =
 
 -- ---- whole rows
 
-pub written_back : (items new : List Bool) (len n : ℕ) → length items ≡ n → length new ≡ n → len ≡ n → take len (new ++ drop (length new) items) ≡ new
-written_back items new len n a b e = ap (λ t. take len (new ++ t)) (none_past items (length new) (omega arith)) ∙ ap (take len) (nothing_past new) ∙ take_all len new (omega arith)
-  where
-    none_past : (xs : List Bool) (i : ℕ) → length xs ≤ i → drop i xs ≡ []
-    none_past [] zero l = refl
-    none_past [] (suc i) l = refl
-    none_past (x ∷ xs) zero l = absurd (omega arith)
-    none_past (x ∷ xs) (suc i) l = none_past xs i (omega arith)
-
-    nothing_past : (xs : List Bool) → xs ++ [] ≡ xs
-    nothing_past [] = refl
-    nothing_past (x ∷ xs) = ap (λ r. x ∷ r) (nothing_past xs)
+-- what a slice that covers a vector leaves in it
+pub written_back : {B : Type 0} (items new : List B) (len n : ℕ) → length items ≡ n → length new ≡ n → len ≡ n → take len (new ++ drop (length new) items) ≡ new
+written_back items new len n a b e = ap (λ t. take len (new ++ t)) (drop_all (length new) items (omega arith)) ∙ ap (take len) (append-nil new) ∙ take_all len new (omega arith)
 
 pub all_marked : (test : ℕ → Touches → Bool) (table : List Touches) (block : List ℕ) (before after seen : List Bool) → before ≡ replicate (3 * length table) false
     → ((b : ℕ) → b < length before → get_or after b false ≡ (get_or before b false || list_any (test b) (touched_by table block))) → seen ≡ after → AreMarked test table block seen

@@ -1,22 +1,18 @@
 -- What footprints tell, and what two blocks save as one.
-use Rattle.std.proofs.Common.{◌≡◌, ◌≢◌, ℕ, zero, suc, ◌+◌, ◌-◌, ◌*◌, ◌/◌, ◌%◌, ◌<◌, ◌≤◌, List, [], ◌∷◌, ◌++◌, Bool, true, false, cond, not, ◌&&◌, ◌||◌, Option, Some, None, length, map, get_or, inl, inr, refl, ap, ap₂, sym, subst, ◌∙◌, arith, eq-eqb}
-use Rattle.std.specs.Prelude.{◌==◌, bit_or, nat_lt}
-use Rattle.std.specs.List.{AllByRecursion, filter, flat_map, list_any, position_or_len, range_with_len}
-use Rattle.std.specs.Option.{option_map, option_to_list}
-use Rattle.std.proofs.lemmas.Bool.{and_parts, cases_lt, eqb-true, false≢true, lt-ltb, ltb-false, ltb-true, ne_eqb}
+use Rattle.std.proofs.Common.{◌≡◌, ◌≢◌, ℕ, ◌+◌, ◌-◌, ◌*◌, ◌/◌, ◌%◌, ◌<◌, ◌≤◌, List, [], ◌∷◌, ◌++◌, Bool, true, false, ◌&&◌, ◌||◌, Some, length, get_or, inl, inr, refl, ap, ap₂, sym, subst, ◌∙◌, arith, eq-eqb}
+use Rattle.std.specs.Prelude.{◌==◌, nat_lt}
+use Rattle.std.specs.List.{flat_map, list_any}
+use Rattle.std.proofs.lemmas.Bool.{cases_lt, eqb-true, false≢true, lt-ltb, ltb-false, ltb-true, ne_eqb}
 use Rattle.std.proofs.lemmas.List.{get_or-append_right, get_or_append_left}
 use Rattle.std.proofs.lemmas.List.Folds.{list_any-append}
-use Rattle.arr_view.specs.Strided.{Strided}
-use Rattle.arr_view.specs.Views.{identical}
-use Rattle.arr_ops.specs.Costs.{block_cost, distinct, total, weight}
 use Rattle.arr_ops.specs.Ops.{views}
 use Rattle.arr_ops.specs.Plans.{numbered, ops_of}
 use Rattle.arr_ops.specs.declared.op.Op.{Op}
 use Rattle.arr_cost.specs.declared.footprints.Row.{Row}
 use Rattle.arr_cost.specs.declared.touches.Touch.{Touch}
 use Rattle.arr_cost.specs.declared.touches.Touches.{Touches}
-use Rattle.arr_cost.specs.Footprints.{bases_of, blank, has_bit, is_class, join, keeps, keeps_class, loses, reads_class, row_for, span, weights_of, writes_class, IsFootprint}
-use Rattle.arr_cost.specs.Touches.{base_of, class_of, frees_number, kept, makes_number, outside, same_class, table_of, touch_of, touched_by, touches_of, untouched}
+use Rattle.arr_cost.specs.Footprints.{bases_of, blank, has_bit, is_class, join, keeps, keeps_class, loses, reads_class, row_for, span, writes_class, IsFootprint}
+use Rattle.arr_cost.specs.Touches.{frees_number, makes_number, table_of, touched_by, touches_of, untouched}
 use Rattle.arr_cost.proofs.Digits.{or_bit, span_alike, span_more}
 use Rattle.arr_cost.proofs.Touched.{any_picked, any_row}
 

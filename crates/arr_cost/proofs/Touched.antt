@@ -3,6 +3,7 @@ use Rattle.std.proofs.Common.{◌≡◌, ℕ, zero, suc, ◌+◌, ◌*◌, ◌<�
 use Rattle.std.specs.Prelude.{◌==◌, nat_eq}
 use Rattle.std.specs.List.{AllByRecursion, enumerate_from, filter, flat_map, list_any, position_or_len}
 use Rattle.std.specs.Option.{option_map, option_to_list}
+use Rattle.std.proofs.Math.Bool.{or-false}
 use Rattle.std.proofs.lemmas.Bool.{and_parts, eqb-true, false≢true, ne_eqb, or_left, or_right}
 use Rattle.std.proofs.lemmas.List.Folds.{list_any-append}
 use Rattle.std.proofs.lemmas.List.{length-map, take_all, take_more}
@@ -16,16 +17,12 @@ use Rattle.arr_ops.proofs.Alike.{identical_if, identical_symm, identical_trans, 
 use Rattle.arr_ops.proofs.FitsLaw.{all_append}
 use Rattle.arr_ops.proofs.Merged.{two_cover}
 use Rattle.arr_ops.proofs.Pairs.{All_filter, All_weaker}
-use Rattle.arr_ops.proofs.Tests.{or_cases}
+use Rattle.arr_ops.proofs.Tests.{any_map, or_cases}
 use Rattle.arr_cost.specs.declared.touches.Touch.{Touch}
 use Rattle.arr_cost.specs.declared.touches.Touches.{Touches}
 use Rattle.arr_cost.specs.Touches.{AreMarked, base_of, class_of, frees_number, kept, makes_number, outside, same_class, table_of, touch_of, touched_by, touches_of, untouched}
 
 -- ---- lists
-
-any_map : {X Y : Type 0} (f : X → Y) (t : Y → Bool) (xs : List X) → list_any t (map f xs) ≡ list_any (λ x. t (f x)) xs
-any_map f t [] = refl
-any_map f t (x ∷ xs) = ap (λ b. t (f x) || b) (any_map f t xs)
 
 any_alike : {X : Type 0} (s t : X → Bool) (xs : List X) → ((x : X) → s x ≡ t x) → list_any s xs ≡ list_any t xs
 any_alike s t [] h = refl
@@ -114,11 +111,7 @@ any_picked t list block =
 -- the same by rows
 row_at_place : (K : Touches → Bool) (g : Op → Touches) → K untouched ≡ false → (list : List Op) (i : ℕ) → K (get_or (map g list) i untouched) ≡ list_any (λ op. K (g op)) (at_place list i)
 row_at_place K g none [] i = none
-row_at_place K g none (op ∷ list) zero = sym (or_none (K (g op)))
-  where
-    or_none : (b : Bool) → (b || false) ≡ b
-    or_none true = refl
-    or_none false = refl
+row_at_place K g none (op ∷ list) zero = sym (or-false (K (g op)))
 row_at_place K g none (op ∷ list) (suc i) = row_at_place K g none list i
 
 row_at_number : (K : Touches → Bool) (g : Op → Touches) → K untouched ≡ false → (list : List Op) (i : ℕ) → K (get_or (untouched ∷ map g list) i untouched) ≡ list_any (λ op. K (g op)) (at_number list i)

@@ -1,5 +1,5 @@
 -- What blocks touch, class by class, as rows of 64 bits.
-use Rattle.std.specs.Prelude.{◌≡◌, ℕ, zero, suc, ◌<◌, ◌+◌, ◌*◌, ◌/◌, ◌%◌, ◌==◌, nat_lt, List, Bool, ◌&&◌, ◌||◌, not, map, cond, get_or, length, Option, bit_or}
+use Rattle.std.specs.Prelude.{◌≡◌, ℕ, zero, suc, ◌<◌, ◌+◌, ◌/◌, ◌%◌, ◌==◌, nat_lt, List, Bool, ◌&&◌, ◌||◌, not, map, cond, get_or, length, Option, bit_or}
 use Rattle.std.specs.Int.{bit_at}
 use Rattle.std.specs.List.{flat_map, list_any}
 use Rattle.std.specs.Option.{option_to_list}

@@ -8,8 +8,7 @@ ghost use Rattle.arr_ops.specs.Ops.{creates, freed_by, inputs, makes_base, outpu
 
 use crate::NoMemory;
 use crate::distinct::distinct;
-use crate::touches::all_views;
-use arr_ops::{Op, Operand};
+use arr_ops::{Op, Operand, all_views};
 use arr_view::View;
 use std::alloc::Global;
 
@@ -17,11 +16,7 @@ use std::alloc::Global;
 fn makes_base(op: &Op, base: u32) -> bool
     ensures { result ≡ makes_base op.now base }
 {
-    op.makes
-        && match &op.out {
-            Some(view) => view.base() == base,
-            None => false,
-        }
+    op.makes && op.writes(base)
 }
 
 /// Whether some operation of a block creates a base.

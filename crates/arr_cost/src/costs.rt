@@ -12,7 +12,7 @@ use crate::footprints::{Footprint, footprint_of};
 use crate::tally::{touched_weight, touches_at};
 use crate::touches::{Touches, class_bases, table_of};
 use crate::weights::class_weights;
-use arr_ops::{Op, Plan};
+use arr_ops::{Op, Plan, copied_ops};
 use arr_sets::MOST;
 use arr_view::View;
 use std::alloc::Global;
@@ -40,16 +40,6 @@ impl Model for Costs {
     ghost view = { λ c. c.ops.items };
 
     ghost invariant = { λ c. (length c.ops.items ≤ 256) × (IsTrue (is_formed c.ops.items)) × (c.table.items ≡ table_of c.ops.items) × (All (λ t. IsTrue (is_below (3 * length c.table.items) t)) c.table.items) × (c.bases.items ≡ bases_of c.ops.items) × (c.weights.items ≡ weights_of c.ops.items) × (All (λ w. w ≤ 8388608) c.weights.items) };
-}
-
-fn copied(alloc: Global, ops: &[Op]) -> Result<Vec<Op>, NoMemory>
-    ensures { IfOk result (λ copy. copy.items ≡ ops.now) }
-{
-    let mut copy = Vec::new(alloc);
-    for op in ops {
-        copy.push(op.copied())?;
-    }
-    Ok(copy)
 }
 
 fn has(block: &[u32], number: u32) -> bool
@@ -107,7 +97,7 @@ impl Costs {
         ensures { IfOk result (λ costs. costs ≡ ops.now) }
     {
         Ok(Costs {
-            ops: copied(alloc, ops)?,
+            ops: copied_ops(alloc, ops)?,
             table: table_of(alloc, ops)?,
             bases: class_bases(alloc, ops)?,
             weights: class_weights(alloc, ops)?,

@@ -10,7 +10,7 @@ ghost use Rattle.arr_cost.specs.Touches.{base_of, class_of, free_below, is_below
 
 use crate::NoMemory;
 use crate::weights::view_weight;
-use arr_ops::{Op, Operand};
+use arr_ops::{Op, Operand, all_views};
 use arr_overlap::identical;
 use arr_view::View;
 use std::alloc::Global;
@@ -32,43 +32,6 @@ pub(crate) struct Touches {
     pub(crate) out: Option<Touch>,
     pub(crate) makes: bool,
     pub(crate) frees: Option<usize>,
-}
-
-fn push_output(list: &mut Vec<View>, view: &Option<View>) -> Result<(), NoMemory>
-    ensures { IfOk result (λ done. list.new.items ≡ list.old.items ++ option_to_list view.now) }
-{
-    if let Some(view) = view {
-        list.push(view.copied())?;
-    }
-    Ok(())
-}
-
-fn push_operand(list: &mut Vec<View>, operand: &Option<Operand>) -> Result<(), NoMemory>
-    ensures { IfOk result (λ done. list.new.items ≡ list.old.items ++ view_of operand.now) }
-{
-    if let Some(Operand::Array(view)) = operand {
-        list.push(view.copied())?;
-    }
-    Ok(())
-}
-
-fn push_views(list: &mut Vec<View>, op: &Op) -> Result<(), NoMemory>
-    ensures { IfOk result (λ done. list.new.items ≡ list.old.items ++ views op.now) }
-{
-    push_output(list, &op.out)?;
-    push_operand(list, &op.first)?;
-    push_operand(list, &op.second)
-}
-
-/// The views of the operations, one operation after another.
-pub(crate) fn all_views(alloc: Global, ops: &[Op]) -> Result<Vec<View>, NoMemory>
-    ensures { IfOk result (λ all. all.items ≡ flat_map views ops.now) }
-{
-    let mut all = Vec::new(alloc);
-    for op in ops {
-        push_views(&mut all, op)?;
-    }
-    Ok(all)
 }
 
 fn class_of(all: &[View], view: &View) -> usize

@@ -10,41 +10,19 @@ ghost use Rattle.arr_cost.specs.Footprints.{weights_of};
 ghost use Rattle.arr_cost.specs.Types.{type_among};
 
 use crate::NoMemory;
-use crate::touches::all_views;
 use arr_num::Elem;
-use arr_ops::{Op, Operand, weight};
+use arr_ops::{Op, all_views, weight};
 use arr_view::View;
 use std::alloc::Global;
-
-fn is_of(view: &Option<View>, base: u32) -> bool
-    ensures { result ≡ has (map (λ v. v.base) (option_to_list view.now)) base }
-{
-    match view {
-        Some(view) => base == view.base(),
-        None => false,
-    }
-}
-
-fn reads_base(operand: &Option<Operand>, base: u32) -> bool
-    ensures { result ≡ has (map (λ v. v.base) (view_of operand.now)) base }
-{
-    match operand {
-        Some(Operand::Array(view)) => base == view.base(),
-        _ => false,
-    }
-}
 
 /// The type that an operation gives to a base, if it names it.
 fn type_in(op: &Op, base: u32) -> Option<Elem>
     ensures { result ≡ type_among (typed op.now) base }
 {
-    if is_of(&op.out, base) {
+    if op.writes(base) {
         return Some(op.to);
     }
-    if reads_base(&op.first, base) {
-        return Some(op.from);
-    }
-    if reads_base(&op.second, base) {
+    if op.reads(base) {
         return Some(op.from);
     }
     if op.frees == Some(base) {
@@ -65,8 +43,8 @@ fn elem_of(list: &[Op], base: u32) -> Elem
     Elem::U8
 }
 
-/// What one view weighs in a list, in bytes.
-pub(crate) fn view_weight(list: &[Op], view: &View) -> u64
+/// What one view weighs in a list, in bytes: what its elements take in the type of its base (docs/PLANS.md, "Cost"). It takes no memory.
+pub fn view_weight(list: &[Op], view: &View) -> u64
     ensures value { result ≡ weight list.now view.now }
     ensures small { result ≤ 8388608 }
 {

@@ -5,9 +5,9 @@ ghost use Rattle.arr_ops.specs.Ops.{fusible, serial};
 ghost use Rattle.arr_deps.specs.Graph.{leads_to, op_at};
 
 use crate::NoMemory;
-use crate::classed::{all_views, class_table};
+use crate::classed::class_table;
 use crate::tables::{dep_rows, fuse_rows, serial_row};
-use arr_ops::Op;
+use arr_ops::{Op, all_views, copied_ops};
 use arr_overlap::Classes;
 use arr_sets::{Bits, MOST};
 use std::alloc::Global;
@@ -36,16 +36,6 @@ impl Model for Graph {
     ghost invariant = { λ g. (length g.ops.items ≤ 256) × (IsTrue (is_formed g.ops.items)) × (g.serials ≡ map serial g.ops.items) × (g.deps.items ≡ rows_by dep g.ops.items) × (g.fuses.items ≡ rows_by fusible g.ops.items) };
 }
 
-fn copied(alloc: Global, ops: &[Op]) -> Result<Vec<Op>, NoMemory>
-    ensures { IfOk result (λ copy. copy.items ≡ ops.now) }
-{
-    let mut copy = Vec::new(alloc);
-    for op in ops {
-        copy.push(op.copied())?;
-    }
-    Ok(copy)
-}
-
 impl Graph {
     /// The graph of a formed list of at most `MOST` operations, with a copy of the list. Want of memory is its one refusal
     /// (docs/PLANS.md, "Dependence").
@@ -58,7 +48,7 @@ impl Graph {
         let classes = Classes::of(alloc, views.as_slice())?;
         let table = class_table(alloc, &classes, ops)?;
         Ok(Graph {
-            ops: copied(alloc, ops)?,
+            ops: copied_ops(alloc, ops)?,
             serials: serial_row(alloc, &classes, ops, table.as_slice())?,
             deps: dep_rows(alloc, &classes, ops, table.as_slice())?,
             fuses: fuse_rows(alloc, &classes, ops, table.as_slice())?,

@@ -2,13 +2,12 @@
 ghost use Rattle.std.specs.Prelude.{◌≡◌, ◌||◌, IsTrue, cond, length};
 ghost use Rattle.std.specs.List.{list_any};
 ghost use Rattle.std.specs.Option.{option_copied};
-ghost use Rattle.arr_num.specs.Kinds.{is_reduction, walks_input};
+ghost use Rattle.arr_num.specs.Kinds.{walks_input};
 ghost use Rattle.arr_view.specs.Views.{has, same_lists};
 ghost use Rattle.arr_ops.specs.Ops.{crosses, dep, disturbs, freed, fusible, named, inputs, is_free, outputs, same_walk, serial, walked};
 ghost use Rattle.arr_deps.specs.Classed.{cross, first_view, meet, within, Stands};
 
 use crate::classed::Classed;
-use arr_num::Code;
 use arr_ops::Op;
 use arr_overlap::Classes;
 use arr_view::View;
@@ -33,29 +32,6 @@ fn cross(classes: &Classes, never: bool, a: Option<u32>, b: Option<u32>) -> bool
 {
     match (a, b) {
         (Some(a), Some(b)) => classes.meets(a, b) && (never || a != b),
-        _ => false,
-    }
-}
-
-fn is_reduction(code: Code) -> bool
-    ensures { result ≡ is_reduction code }
-{
-    match code {
-        Code::AddReduce | Code::MultiplyReduce | Code::MinimumReduce | Code::MaximumReduce => true,
-        _ => false,
-    }
-}
-
-/// Whether an operation walks the shape of its input.
-fn walks_input(code: Code) -> bool
-    ensures { result ≡ walks_input code }
-{
-    match code {
-        Code::AddReduce
-        | Code::MultiplyReduce
-        | Code::MinimumReduce
-        | Code::MaximumReduce
-        | Code::Sync => true,
         _ => false,
     }
 }
@@ -123,7 +99,7 @@ pub(crate) fn is_serial(classes: &Classes, op: &Op, op_classes: &Classed) -> boo
     requires { Stands classes.now op.now op_classes.now }
     ensures { result ≡ serial op.now }
 {
-    let never = is_reduction(op.code);
+    let never = op.code.is_reduction();
     cross(classes, never, op_classes.out, op_classes.first)
         || cross(classes, never, op_classes.out, op_classes.second)
 }
@@ -133,14 +109,14 @@ fn crosses(classes: &Classes, f: &Op, g: &Op, f_classes: &Classed, g_classes: &C
     requires second { Stands classes.now g.now g_classes.now }
     ensures { result ≡ crosses f.now g.now }
 {
-    crosses_any(classes, is_reduction(f.code), f_classes.out, g_classes)
+    crosses_any(classes, f.code.is_reduction(), f_classes.out, g_classes)
 }
 
 /// The view whose shape an operation walks; none for FREE.
 fn walked_view(op: &Op) -> Option<&View>
     ensures { option_copied result ≡ first_view (cond (walks_input op.now.code) (inputs op.now) (outputs op.now)) }
 {
-    if !walks_input(op.code) {
+    if !op.code.walks_input() {
         return op.out_view();
     }
     match op.first_view() {

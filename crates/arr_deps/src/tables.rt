@@ -10,7 +10,7 @@ use crate::classed::Classed;
 use crate::pairs::{depend, is_serial, may_fuse};
 use arr_ops::Op;
 use arr_overlap::Classes;
-use arr_sets::Bits;
+use arr_sets::{Bits, MOST};
 use std::alloc::Global;
 
 fn depend_at(classes: &Classes, ops: &[Op], table: &[Classed], f: usize, g: usize) -> bool
@@ -49,7 +49,7 @@ pub(crate) fn serial_row(
     ops: &[Op],
     table: &[Classed],
 ) -> Result<Bits, NoMemory>
-    requires few { length ops.now ≤ 1048576 }
+    requires few { length ops.now ≤ MOST }
     requires table { table.now ≡ map (classes_of classes.now) ops.now }
     requires known { IsTrue (list_all (has_classes classes.now) ops.now) }
     ensures { IfOk result (λ row. row ≡ map serial ops.now) }
@@ -72,7 +72,7 @@ fn dep_row(
     f: usize,
 ) -> Result<Bits, NoMemory>
     requires place { f < length ops.now }
-    requires few { length ops.now ≤ 1048576 }
+    requires few { length ops.now ≤ MOST }
     requires table { table.now ≡ map (classes_of classes.now) ops.now }
     requires known { IsTrue (list_all (has_classes classes.now) ops.now) }
     ensures { IfOk result (λ row. row ≡ map (dep (op_in ops.now f)) ops.now) }
@@ -95,7 +95,7 @@ fn fuse_row(
     f: usize,
 ) -> Result<Bits, NoMemory>
     requires place { f < length ops.now }
-    requires few { length ops.now ≤ 1048576 }
+    requires few { length ops.now ≤ MOST }
     requires table { table.now ≡ map (classes_of classes.now) ops.now }
     requires known { IsTrue (list_all (has_classes classes.now) ops.now) }
     ensures { IfOk result (λ row. row ≡ map (fusible (op_in ops.now f)) ops.now) }
@@ -116,7 +116,7 @@ pub(crate) fn dep_rows(
     ops: &[Op],
     table: &[Classed],
 ) -> Result<Vec<Bits>, NoMemory>
-    requires few { length ops.now ≤ 1048576 }
+    requires few { length ops.now ≤ MOST }
     requires table { table.now ≡ map (classes_of classes.now) ops.now }
     requires known { IsTrue (list_all (has_classes classes.now) ops.now) }
     ensures { IfOk result (λ rows. rows.items ≡ rows_by dep ops.now) }
@@ -135,7 +135,7 @@ pub(crate) fn fuse_rows(
     ops: &[Op],
     table: &[Classed],
 ) -> Result<Vec<Bits>, NoMemory>
-    requires few { length ops.now ≤ 1048576 }
+    requires few { length ops.now ≤ MOST }
     requires table { table.now ≡ map (classes_of classes.now) ops.now }
     requires known { IsTrue (list_all (has_classes classes.now) ops.now) }
     ensures { IfOk result (λ rows. rows.items ≡ rows_by fusible ops.now) }

@@ -1,7 +1,6 @@
 //! Which opcode a sign or word of an expression stands for.
 
 ghost use Rattle.std.specs.Prelude.{◌≡◌};
-ghost use Rattle.arr_num.specs.Kinds.{is_reduction};
 ghost use Rattle.arr_elab.specs.Codes as spec;
 ghost use Rattle.arr_syntax.specs.Grammar.{signed};
 
@@ -88,15 +87,6 @@ pub(crate) fn result_type(code: Code, elem: Elem) -> Elem
     ensures { result ≡ spec.result_type code elem }
 {
     if compares(code) { Elem::U8 } else { elem }
-}
-
-pub(crate) fn is_reduction(code: Code) -> bool
-    ensures { result ≡ is_reduction code }
-{
-    matches!(
-        code,
-        Code::AddReduce | Code::MultiplyReduce | Code::MinimumReduce | Code::MaximumReduce
-    )
 }
 
 /// The number that a literal spells.

@@ -10,7 +10,7 @@ ghost use Rattle.arr_elab.specs.declared.value.Prepared.TheVariants.{Ready};
 ghost use Rattle.arr_elab.specs.declared.value.Value.TheVariants as literal;
 ghost use Rattle.arr_elab.specs.Outcome.{prepared};
 
-use crate::codes::{binary_code, elem_of, fold_code, is_reduction, literal_number, unary_code};
+use crate::codes::{binary_code, elem_of, fold_code, literal_number, unary_code};
 use crate::fault::ElabFault;
 use crate::joined::{filled, joined};
 use crate::operation::{exponent_of, operation, pending, ruled, seen, settled, taken};
@@ -120,7 +120,7 @@ fn fold_shape(code: Code, view: &View, axis: u8) -> ArrayShape
     requires { axis < length view.now.lengths }
     ensures { result ≡ spec.fold_shape code view.now.lengths axis }
 {
-    if is_reduction(code) {
+    if code.is_reduction() {
         ArrayShape::without_axis(view, axis)
     } else {
         ArrayShape::of(view)

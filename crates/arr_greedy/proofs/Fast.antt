@@ -11,6 +11,7 @@ use Rattle.arr_ops.specs.Formed.{all_pairs}
 use Rattle.arr_ops.specs.Plans.{numbered, ops_of}
 use Rattle.arr_ops.specs.Order.{least_of, same_block, is_orderable}
 use Rattle.arr_ops.proofs.Pairs.{Pairs, Pairs_weaker, Pairs_both}
+use Rattle.arr_ops.proofs.Tests.{any_map}
 use Rattle.arr_heur.specs.Planners.{numbers, union, merge, pairs, saving, heaviest, mergeable, greedy_within}
 use Rattle.arr_ops.specs.Order.{In}
 use Rattle.arr_greedy.specs.Ways.{lies_between, reach_after}
@@ -83,10 +84,6 @@ pairs_map {X} {Y} f (x ∷ xs) =
     heads : (ys : List X) → map (λ b. pair_at (f x) b) (map f ys) ≡ map (both_of f) (map (pair_with x) ys)
     heads [] = refl
     heads (y ∷ ys) = ap (λ l. (f x, f y) ∷ l) (heads ys)
-
-any_map : {X Y : Type 0} (f : X → Y) (t : Y → Bool) (xs : List X) → list_any t (map f xs) ≡ list_any (λ x. t (f x)) xs
-any_map f t [] = refl
-any_map f t (x ∷ xs) = ap (λ b. t (f x) || b) (any_map f t xs)
 
 -- ---- what is kept of a partition, by least numbers
 

@@ -1,9 +1,8 @@
 -- Tables of rows of one width, filled place after place.
-use Rattle.std.proofs.Common.{◌≡◌, ℕ, zero, suc, ◌+◌, ◌*◌, ◌/◌, ◌%◌, ◌<◌, ◌≤◌, List, [], ◌∷◌, ◌++◌, length, take, drop, get_or, refl, ap, ap₂, ◌∙◌, inl, inr, arith}
+use Rattle.std.proofs.Common.{◌≡◌, ℕ, zero, suc, ◌+◌, ◌*◌, ◌/◌, ◌%◌, ◌<◌, ◌≤◌, List, [], ◌∷◌, ◌++◌, length, get_or, refl, ap, ap₂, ◌∙◌, inl, inr, arith}
 use Rattle.std.specs.Prelude.{Bool, cond}
 use Rattle.std.specs.List.{filter, range_with_len}
 use Rattle.std.proofs.lemmas.Bool.{cases_lt}
-use Rattle.std.proofs.lemmas.List.{append-nil, take_all}
 use Rattle.std.proofs.lemmas.List.Elements.{filter-append}
 use Rattle.arr_heur.proofs.Stretches.{range_more}
 use Rattle.std.proofs.lemmas.Nat.{div-mul-add, mod-mul-add, mul-add-lt}
@@ -34,13 +33,3 @@ pub filter_more : (p : ℕ → Bool) (n : ℕ) → filter p (range_with_len 1 (n
 filter_more p n =
     ap (filter p) (range_more 1 n ∙ ap (λ k. range_with_len 1 n ++ k ∷ []) (let e : 1 + n ≡ n + 1 = omega arith in e))
     ∙ filter-append p (range_with_len 1 n) ((n + 1) ∷ [])
-
-none_left : {B : Type 0} (xs : List B) (i : ℕ) → length xs ≤ i → drop i xs ≡ []
-none_left [] zero l = refl
-none_left [] (suc i) l = refl
-none_left (x ∷ xs) zero l = absurd (omega arith)
-none_left (x ∷ xs) (suc i) l = none_left xs i (omega arith)
-
--- what a slice that covers a vector leaves in it
-pub written_back : {B : Type 0} (items new : List B) (len n : ℕ) → length items ≡ n → length new ≡ n → len ≡ n → take len (new ++ drop (length new) items) ≡ new
-written_back items new len n a b e = ap (λ t. take len (new ++ t)) (none_left items (length new) (omega arith)) ∙ ap (take len) (append-nil new) ∙ take_all len new (omega arith)

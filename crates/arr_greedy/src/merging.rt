@@ -12,7 +12,7 @@ ghost use Rattle.arr_greedy.specs.Ways.{reach_after};
 
 use crate::NoMemory;
 use crate::choice::next_pair;
-use crate::rows::{fuse_rows, reach_rows};
+use crate::rows::{fuse_rows, push_if, reach_rows};
 use arr_cost::{Costs, Footprint};
 use std::alloc::Global;
 
@@ -80,15 +80,6 @@ fn is_marked(marks: &[bool], number: u32) -> bool
     ensures { result ≡ get_or marks.now number false }
 {
     marks[number as usize]
-}
-
-fn push_if(inside: bool, found: &mut Vec<u32>, number: u32) -> Result<(), NoMemory>
-    ensures { IfOk result (λ done. found.new.items ≡ found.old.items ++ cond inside (number ∷ []) []) }
-{
-    if inside {
-        found.push(number)?;
-    }
-    Ok(())
 }
 
 /// The numbers of two blocks, ascending.

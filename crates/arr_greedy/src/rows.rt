@@ -96,11 +96,12 @@ fn gains(rows: &[bool], width: usize, left: usize, right: usize, column: usize) 
     column == left || at(rows, width, left, column) || at(rows, width, right, column)
 }
 
-fn push_if(inside: bool, found: &mut Vec<usize>, column: usize) -> Result<(), NoMemory>
-    ensures { IfOk result (λ done. found.new.items ≡ found.old.items ++ cond inside (column ∷ []) []) }
+/// Puts a number last, where it is one of those looked for.
+pub(crate) fn push_if<T: Copy>(inside: bool, found: &mut Vec<T>, number: T) -> Result<(), NoMemory>
+    ensures { IfOk result (λ done. found.new.items ≡ found.old.items ++ cond inside (number ∷ []) []) }
 {
     if inside {
-        found.push(column)?;
+        found.push(number)?;
     }
     Ok(())
 }

@@ -1,5 +1,5 @@
 -- The order of a partition, block after block.
-use Rattle.std.proofs.Common.{◌≡◌, ℕ, suc, ◌+◌, ◌-◌, ◌<◌, ◌≤◌, List, [], ◌∷◌, ◌++◌, Bool, true, false, cond, not, ◌&&◌, ◌||◌, Option, Some, None, length, map, drop, get_or, inl, inr, refl, ap, ap₂, sym, ◌∙◌, arith}
+use Rattle.std.proofs.Common.{◌≡◌, ℕ, suc, ◌+◌, ◌-◌, ◌<◌, ◌≤◌, List, [], ◌∷◌, ◌++◌, Bool, true, false, cond, not, ◌&&◌, Option, Some, None, length, map, drop, get_or, inl, inr, refl, ap, ap₂, sym, ◌∙◌, arith}
 use Rattle.std.specs.Prelude.{nat_lt, nat_eq}
 use Rattle.std.specs.List.{All, AllByRecursion, enumerate_from, filter, list_all, list_any, range_with_len}
 use Rattle.std.specs.Option.{option_map}
@@ -14,6 +14,7 @@ use Rattle.arr_ops.specs.Plans.{ascends, numbered}
 use Rattle.arr_ops.specs.Order.{In, earlier, first_block, is_ready, leads, least_of, ordered, ordered_within, same_block}
 use Rattle.arr_ops.proofs.Members.{all_in}
 use Rattle.arr_ops.proofs.Pairs.{Pairs, All_weaker, Pairs_weaker, Pairs_All, Pairs_both}
+use Rattle.arr_ops.proofs.Tests.{any_map}
 use Rattle.arr_ops.proofs.Legality.{Leading, any_found, any_there, in_has, leads_from, leads_to}
 use Rattle.arr_deps.specs.Graph.{leads_to as goes_to, op_at, op_in}
 use Rattle.arr_heur.specs.Partitions.{block_in, comes_first, waits}
@@ -128,12 +129,8 @@ abbrev pub joined : Option (List ℕ) → Option (List ℕ) → Option (List ℕ
 joined None o = o
 joined (Some b) o = Some (earlier b o)
 
-any_map : {A B : Type 0} (p : B → Bool) (f : A → B) (xs : List A) → list_any p (map f xs) ≡ list_any (λ x. p (f x)) xs
-any_map p f [] = refl
-any_map p f (x ∷ xs) = ap (λ b. p (f x) || b) (any_map p f xs)
-
 pub ready_is : (list : List Op) (blocks : List (List ℕ)) (left : List ℕ) (place : ℕ) → is_ready (numbered list) (map (block_in blocks) left) (block_in blocks place) ≡ not (waits list blocks left place)
-ready_is list blocks left place = ap not (any_map (λ other. not (same_block other (block_in blocks place)) && leads (numbered list) other (block_in blocks place)) (block_in blocks) left)
+ready_is list blocks left place = ap not (any_map (block_in blocks) (λ other. not (same_block other (block_in blocks place)) && leads (numbered list) other (block_in blocks place)) left)
 
 -- of three, by their least numbers
 thrice : (a b : List ℕ) (o : Option (List ℕ)) → earlier a (Some (earlier b o)) ≡ earlier (cond (nat_lt (least_of b) (least_of a)) b a) o

@@ -43,7 +43,7 @@ quiet_free f e = ap (λ (x : Option ℕ). list_any (λ (_ : ℕ). true) (option_
 no_output : (op : Op) → op.out ≡ None → serial op ≡ false
 no_output op e = ap (λ (x : Option Strided). some_pair (λ o v. overlap o v && (is_reduction op.code || not (identical o v))) (option_to_list x) (inputs op)) e
 
-busy : (op : Op) → well_formed op ≡ true → serial op ≡ true → op.frees ≡ None
+pub busy : (op : Op) → well_formed op ≡ true → serial op ≡ true → op.frees ≡ None
 busy op well h = sorts op well (λ o a p. p.no_free) (λ v s. s.no_free) (λ x. absurd (false≢true (sym (no_output op x.no_out) ∙ h))) (λ o v r. r.no_free)
 
 -- ---- a serial operation stands with FREEs alone
@@ -115,7 +115,7 @@ lone (x ∷ xs) w p h =
 abbrev pub writes_some : Op → Bool
 writes_some op = is_some op.out
 
-serial_writes : (op : Op) → serial op ≡ true → is_some op.out ≡ true
+pub serial_writes : (op : Op) → serial op ≡ true → is_some op.out ≡ true
 serial_writes op h = at op.out refl
   where
     at : (x : Option Strided) → op.out ≡ x → is_some x ≡ true
@@ -143,7 +143,7 @@ found_some ops share h none =
 
 -- ---- it creates nothing
 
-serial_makes : (op : Op) → well_formed op ≡ true → serial op ≡ true → op.makes ≡ false
+pub serial_makes : (op : Op) → well_formed op ≡ true → serial op ≡ true → op.makes ≡ false
 serial_makes op well h = at op.makes refl
   where
     kept : makes_whole op ≡ true
@@ -317,7 +317,7 @@ one_distinct : (p : Strided → Bool) (x : Option Strided) → distinct identica
 one_distinct p None = refl
 one_distinct p (Some o) = elim (p o) as (λ b. distinct identical (cond b (o ∷ []) []) ≡ cond b (o ∷ []) []) [ true ↦ refl | false ↦ refl ]
 
-reads_lone : (ops : List Op) (op : Op) → Lone ops op → reads ops ≡ distinct identical (inputs op)
+pub reads_lone : (ops : List Op) (op : Op) → Lone ops op → reads ops ≡ distinct identical (inputs op)
 reads_lone ops op l =
     let q : Strided → Bool = λ (v : Strided). not (creates ops v.base) in
     let F : Op → List Strided = λ (f : Op). filter q (inputs f) in
@@ -326,7 +326,7 @@ reads_lone ops op l =
     (ap (flat_map F) l.is ∙ flat_lone F l.front l.back op (All_weaker Freeing (λ f. F f ≡ []) none l.front l.before) (All_weaker Freeing (λ f. F f ≡ []) none l.back l.behind)
     ∙ filter_all q (inputs op) (λ v. ap not (creates_none ops op l v.base)))
 
-writes_lone : (ops : List Op) (op : Op) → Lone ops op → writes ops ≡ filter (λ (v : Strided). not (freed_by ops v.base)) (outputs op)
+pub writes_lone : (ops : List Op) (op : Op) → Lone ops op → writes ops ≡ filter (λ (v : Strided). not (freed_by ops v.base)) (outputs op)
 writes_lone ops op l =
     let q : Strided → Bool = λ (v : Strided). not (freed_by ops v.base) in
     let F : Op → List Strided = λ (f : Op). filter q (outputs f) in

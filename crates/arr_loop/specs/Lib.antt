@@ -1,3 +1,5 @@
 pub mod Opened
 pub mod Laws
+pub mod Ready
+pub mod Numbers
 pub mod Examples

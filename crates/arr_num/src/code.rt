@@ -1,3 +1,6 @@
+ghost use Rattle.std.specs.Prelude.{◌≡◌};
+ghost use Rattle.arr_num.specs.Kinds.{is_reduction, is_scan, walks_input};
+
 /// What an operation does (docs/LANGUAGE.md, "Opcodes"). The codes from `Add` to `GreaterEqual` are
 /// binary; `Absolute`, `Invert` and `Identity` are unary; these and `Range` are element-wise. Then come
 /// four reductions, two scans, and two codes that compute nothing.
@@ -65,4 +68,30 @@ pub enum Code {
     Free,
     /// Copies an array into a print slot.
     Sync,
+}
+
+impl Code {
+    /// Whether it is a reduction (docs/LANGUAGE.md, "Opcodes").
+    pub fn is_reduction(self) -> bool
+        ensures { result ≡ is_reduction self }
+    {
+        matches!(
+            self,
+            Code::AddReduce | Code::MultiplyReduce | Code::MinimumReduce | Code::MaximumReduce
+        )
+    }
+
+    /// Whether it is a scan (docs/LANGUAGE.md, "Opcodes").
+    pub fn is_scan(self) -> bool
+        ensures { result ≡ is_scan self }
+    {
+        matches!(self, Code::AddAccumulate | Code::MultiplyAccumulate)
+    }
+
+    /// Whether an operation walks the shape of its input: that of a reduction, and SYNC (docs/LANGUAGE.md, "Operations").
+    pub fn walks_input(self) -> bool
+        ensures { result ≡ walks_input self }
+    {
+        self.is_reduction() || self == Code::Sync
+    }
 }

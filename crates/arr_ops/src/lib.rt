@@ -4,7 +4,7 @@
 //! depend or may share a loop, which plans are legal, and what a plan costs.
 //!
 //! The promise: `well_formed` and `list_formed` decide exactly which operations and lists there are, without taking memory;
-//! `walked_shape`, `output`, `inputs` and `weight` are what the definitions say. The laws (`laws.rt`) hold of every formed list: a
+//! `walked_shape`, `output`, `inputs`, `weight`, `copied_ops` and `all_views` are what the definitions say. The laws (`laws.rt`) hold of every formed list: a
 //! legal plan, block after block, leaves what the list leaves; the memory before each block fits it; numbers stay in their types;
 //! operations that do not depend commute; one block never costs more than its two parts; and `ordered` puts the blocks of a partition
 //! into a legal plan wherever some order of them is one.
@@ -15,6 +15,7 @@
 //! `docs/PLANS.md` states the same rules in words.
 #![tactic(auto)]
 
+mod copies;
 mod formed;
 mod gather;
 mod laws;
@@ -23,6 +24,7 @@ mod op;
 mod plan;
 mod shapes;
 
+pub use copies::{all_views, copied_ops};
 pub use formed::well_formed;
 pub use gather::{Gather, Scatter};
 pub use laws::{

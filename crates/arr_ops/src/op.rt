@@ -65,7 +65,7 @@ impl Operand {
 }
 
 impl Op {
-    ghost use Rattle.arr_ops.specs.Ops.{array_of, named, writes_base};
+    ghost use Rattle.arr_ops.specs.Ops.{array_of, inputs, named, writes_base};
 
     /// The view that it writes; `None` where it writes none (docs/LANGUAGE.md, "Operations").
     pub fn out_view(&self) -> Option<&View>
@@ -112,6 +112,13 @@ impl Op {
             Some(out) => out.base() == base,
             None => false,
         }
+    }
+
+    /// Whether it reads a view of the base (docs/LANGUAGE.md, "Operations").
+    pub fn reads(&self, base: u32) -> bool
+        ensures { result ≡ has (map (λ v. v.base) (inputs self.now)) base }
+    {
+        is_of(self.first_view(), base) || is_of(self.second_view(), base)
     }
 
     /// An equal operation (docs/MAP.md, "Copies").

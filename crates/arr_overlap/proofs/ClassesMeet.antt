@@ -1,20 +1,17 @@
 -- Which classes overlap.
-use Rattle.std.proofs.Common.{◌≡◌, ℕ, zero, suc, ◌+◌, ◌<◌, ◌≤◌, List, [], ◌∷◌, ◌++◌, Bool, true, false, length, take, map, set, get_or, pos, replicate, refl, ap, ap₂, sym, subst, ◌∙◌, arith}
+use Rattle.std.proofs.Common.{◌≡◌, ℕ, zero, suc, ◌+◌, ◌<◌, ◌≤◌, List, [], ◌∷◌, ◌++◌, Bool, true, false, length, take, map, set, get_or, refl, ap, ap₂, sym, subst, ◌∙◌, arith}
 use Rattle.std.specs.Prelude.{◌&&◌, ◌||◌, ◌==◌, nat_lt, Option, Some, None}
 use Rattle.std.specs.List.{list_all}
 use Rattle.std.proofs.lemmas.Bool.{and_parts, and_from, eqb-true, eqb-false, eq-eqb, ltb-true, ltb-false, false≢true}
 use Rattle.std.proofs.lemmas.List.{get_or-take, length-take-le, get_or-set_same, get_or-set_other, length-set, length-append}
 use Rattle.arr_sets.specs.Bits.{meets}
 use Rattle.arr_view.specs.Strided.{Strided}
-use Rattle.arr_view.specs.Views.{elements, has, is_view, overlap, share, most_elements, to_place}
-use Rattle.arr_view.specs.Walks.{after}
+use Rattle.arr_view.specs.Views.{elements, has, is_view, overlap, share, most_elements}
 use Rattle.arr_overlap.specs.declared.filters.Outline.{Outline}
 use Rattle.arr_overlap.specs.Classes.{AreMarks, AreOutlines, overlaps_among, view_at}
 use Rattle.arr_overlap.specs.Filters.{IsOutline}
 use Rattle.arr_overlap.specs.Marks.{Marks}
-use Rattle.arr_view.proofs.Checks.{lawful, same_rank}
 use Rattle.arr_view.proofs.Known.{same_tests}
-use Rattle.arr_view.proofs.Walking.{begins, full}
 use Rattle.arr_overlap.proofs.Marking.{elements_below}
 
 -- ---- two rows of marks meet exactly where the lists share a number
@@ -54,7 +51,7 @@ shared_at (x ∷ es) fs e =
     (λ h. record { at = x; here = ap (λ b. b || has es x) (eq-eqb x x refl); there = h })
     (λ h. let r = shared_at es fs h in record { at = r.at; here = ap (λ b. (r.at == x) || b) r.here ∙ or_right (r.at == x); there = r.there })
 
-at_shared : (es fs : List ℕ) (x : ℕ) → has es x ≡ true → has fs x ≡ true → share es fs ≡ true
+pub at_shared : (es fs : List ℕ) (x : ℕ) → has es x ≡ true → has fs x ≡ true → share es fs ≡ true
 at_shared [] fs x h t = absurd (false≢true h)
 at_shared (y ∷ es) fs x h t =
     or_cases (x == y) (has es x) _ h
@@ -194,25 +191,6 @@ marks_decide views marks i j row other known li lj law same e f =
     let v = view_at views i in
     let w = view_at views j in
     sym (ap₂ (λ x y. x && y) (eq-eqb v.base w.base same) (sym (marks_meet row other (elements v) (elements w) (known.each i li row e) (known.each j lj other f) (elements_below v law))))
-
--- a view's start is one of its elements
-start_among : (v : Strided) → is_view v ≡ true → has (elements v) v.start ≡ true
-unfolding elements
-start_among v law =
-    ap (λ zs. has (map to_place zs) v.start) (begins v.lengths v.strides (pos v.start) (lawful v law).lengths (same_rank v law))
-    ∙ ap (λ b. b || has (map to_place (after v.lengths v.strides (full v.lengths) (replicate (length v.lengths) (pos v.start)))) v.start) (eq-eqb v.start v.start refl)
-
-pub start_within : (v : Strided) → is_view v ≡ true → v.start < most_elements
-start_within v law = element_within (elements v) v.start (elements_below v law) (start_among v law)
-
--- views of one base of which one holds the start of the other
-pub start_decides : (views : List Strided) (marks : List (Option (List Bool))) (i j : ℕ) (row : List Bool) → AreMarks marks views → i < length views → is_view (view_at views j) ≡ true
-    → (view_at views i).base ≡ (view_at views j).base → get_or marks i None ≡ Some row → get_or row (view_at views j).start false ≡ true → overlap (view_at views i) (view_at views j) ≡ true
-start_decides views marks i j row known li law same e marked =
-    let v = view_at views i in
-    let w = view_at views j in
-    let held : has (elements v) w.start ≡ true = sym ((known.each i li row e).each w.start (start_within w law)) ∙ marked in
-    ap₂ (λ x y. x && y) (eq-eqb v.base w.base same) (at_shared (elements v) (elements w) w.start held (start_among w law))
 
 share_turned : (es fs : List ℕ) → share es fs ≡ share fs es
 share_turned es fs =

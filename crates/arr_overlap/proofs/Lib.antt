@@ -7,6 +7,7 @@ pub mod Columns
 pub mod Runs
 pub mod Leading
 pub mod Steps
+pub mod Counting
 pub mod Shared
 mod ClassesSeen
 mod ClassesMeet

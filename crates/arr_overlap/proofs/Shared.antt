@@ -1,5 +1,5 @@
 -- Two views whose strides tell whether they have a common element.
-use Rattle.std.proofs.Common.{◌≡◌, ℕ, zero, suc, ◌+◌, ◌-◌, ◌*◌, ◌<◌, ◌≤◌, ℤ, pos, negsuc, ◌+ℤ◌, ◌-ℤ◌, ◌≤ℤ◌, List, [], ◌∷◌, Bool, true, false, cond, drop, get_or, length, map, refl, ap, ap₂, ◌∙◌, subst, arith}
+use Rattle.std.proofs.Common.{◌≡◌, ℕ, zero, suc, ◌+◌, ◌-◌, ◌*◌, ◌<◌, ◌≤◌, ℤ, pos, negsuc, ◌+ℤ◌, ◌-ℤ◌, ◌≤ℤ◌, List, [], ◌∷◌, Bool, true, false, cond, drop, get_or, length, map, refl, ap, ap₂, sym, ◌∙◌, subst, arith}
 use Rattle.std.specs.Prelude.{◌==◌, ◌||◌, nat_eq, nat_le, unsigned_abs}
 use Rattle.std.specs.List.{list_all}
 use Rattle.std.proofs.lemmas.Int.{ints}
@@ -11,8 +11,9 @@ use Rattle.arr_view.specs.Views.{at_steps, elements, has, is_place, is_view, lie
 use Rattle.arr_view.proofs.Checks.{lawful, same_rank}
 use Rattle.arr_view.proofs.Ends.{passes}
 use Rattle.arr_view.proofs.Places.{Inside, out_steps, steps, steps_down, steps_up}
-use Rattle.arr_overlap.specs.Legs.{with_dimensions, LeadTo}
+use Rattle.arr_overlap.specs.Legs.{with_dimensions, LeadTo, Turn}
 use Rattle.arr_overlap.specs.declared.legs.Leg.{Leg}
+use Rattle.arr_overlap.proofs.ClassesMeet.{at_shared}
 use Rattle.arr_overlap.proofs.Leading.{behind}
 use Rattle.arr_overlap.proofs.Marking.{or_true}
 use Rattle.arr_overlap.proofs.Steps.{found, steps_size, total, Each, Found, Move}
@@ -147,6 +148,40 @@ on (n ∷ ns) (s ∷ ss) (y ∷ ys) each legs t h =
     let sum : pos rest.target ≡ pos t +ℤ (y +ℤ total ys) = omega (arith, ints) in
     record { target = rest.target; there = rest.there; is = sum }
 
+-- ---- and back
+
+record Off (ns : List ℕ) (ss : List ℤ) (legs : List Leg) (target : ℕ) : Type 0 where
+  pub counts : List ℤ
+  pub each : Each Count ns ss counts
+  pub left : ℕ
+  pub there : LeadTo legs left
+  pub is : pos target ≡ pos left +ℤ total counts
+
+off : (ns : List ℕ) (ss : List ℤ) (legs : List Leg) (t : ℕ) → length ss ≡ length ns → list_all (nat_le 1) ns ≡ true → LeadTo (with_dimensions ns ss legs) t → Off ns ss legs t
+off [] [] legs t same some h = record { counts = []; each = tt; left = t; there = h; is = (let o : pos t ≡ pos t +ℤ pos 0 = omega (arith, ints) in o) }
+off [] (s ∷ ss) legs t same some h = absurd (omega arith)
+off (n ∷ ns) [] legs t same some h = absurd (omega arith)
+off (n ∷ ns) (s ∷ ss) legs t same some h =
+    let a : ℕ = unsigned_abs s in
+    let leg : Leg = record { places = n; step = a } in
+    let p = and_parts (nat_le 1 n) (list_all (nat_le 1) ns) some in
+    let low : 1 ≤ n = leb-true 1 n p.0 in
+    let rest : Off ns ss (cond (a == 0) legs (leg ∷ legs)) t = off ns ss (cond (a == 0) legs (leg ∷ legs)) t (omega arith) p.1 h in
+    let turn : Turn leg (LeadTo legs) rest.left =
+    elim (a == 0) as (λ b. LeadTo (cond b legs (leg ∷ legs)) rest.left → Turn leg (LeadTo legs) rest.left) [
+      | true ↦ λ k. record { count = 0; few = omega arith; left = rest.left; sum = (let o : rest.left ≡ 0 * a + rest.left = omega arith in o); on = k }
+      | false ↦ λ k. k
+    ] rest.there in
+    let sum : rest.left ≡ turn.count * a + turn.left = turn.sum in
+    let is : pos t ≡ pos rest.left +ℤ total rest.counts = rest.is in
+    record {
+      counts = pos (turn.count * a) ∷ rest.counts;
+      each = (record { count = turn.count; below = turn.few; is = refl }, rest.each);
+      left = turn.left;
+      there = turn.on;
+      is = (let o : pos t ≡ pos turn.left +ℤ (pos (turn.count * a) +ℤ total rest.counts) = omega (arith, ints) in o);
+    }
+
 -- ---- moves lead to elements
 
 has_step : (f : ℤ → List ℤ) (n : ℕ) (s z : ℤ) (i x : ℕ) → i < n → has (map to_place (f (z +ℤ steps i s))) x ≡ true → has (map to_place (at_steps f n s z)) x ≡ true
@@ -181,6 +216,60 @@ record Moves (ns : List ℕ) (ss : List ℤ) (sum : ℤ) : Type 0 where
   pub moves : List ℤ
   pub each : Each Move ns ss moves
   pub is : total moves ≡ sum
+
+move_up : (n : ℕ) (s y : ℤ) → Count n s y → Move n s (y -ℤ pos (cond (falls s) ((n - 1) * unsigned_abs s) 0))
+move_up n (pos m) y c =
+    let is : y ≡ pos (c.count * unsigned_abs (pos m)) = c.is in
+    let size : steps c.count (pos m) ≡ pos (c.count * unsigned_abs (pos m)) = rise c.count m in
+    record { index = c.count; below = c.below; is = (let o : y -ℤ pos 0 ≡ steps c.count (pos m) = omega (arith, ints) in o) }
+move_up n (negsuc m) y c =
+    let a : ℕ = unsigned_abs (negsuc m) in
+    let low : c.count < n = c.below in
+    let i : ℕ = (n - 1) - c.count in
+    let is : y ≡ pos (c.count * a) = c.is in
+    let size : steps i (negsuc m) +ℤ pos (i * a) ≡ pos 0 = fall i m in
+    let rest : (n - 1) * a ≡ i * a + c.count * a = others n c.count a low in
+    record { index = i; below = omega arith; is = (let o : y -ℤ pos ((n - 1) * a) ≡ steps i (negsuc m) = omega (arith, ints) in o) }
+
+move_down : (n : ℕ) (s y : ℤ) → Count n s y → Move n s (pos (cond (falls s) 0 ((n - 1) * unsigned_abs s)) -ℤ y)
+move_down n (pos m) y c =
+    let a : ℕ = unsigned_abs (pos m) in
+    let low : c.count < n = c.below in
+    let i : ℕ = (n - 1) - c.count in
+    let is : y ≡ pos (c.count * a) = c.is in
+    let size : steps i (pos m) ≡ pos (i * a) = rise i m in
+    let rest : (n - 1) * a ≡ i * a + c.count * a = others n c.count a low in
+    record { index = i; below = omega arith; is = (let o : pos ((n - 1) * a) -ℤ y ≡ steps i (pos m) = omega (arith, ints) in o) }
+move_down n (negsuc m) y c =
+    let is : y ≡ pos (c.count * unsigned_abs (negsuc m)) = c.is in
+    let size : steps c.count (negsuc m) +ℤ pos (c.count * unsigned_abs (negsuc m)) ≡ pos 0 = fall c.count m in
+    record { index = c.count; below = c.below; is = (let o : pos 0 -ℤ y ≡ steps c.count (negsuc m) = omega (arith, ints) in o) }
+
+moved_up : (ns : List ℕ) (ss ys : List ℤ) → Each Count ns ss ys → Moves ns ss (total ys -ℤ pos (down ns ss))
+moved_up [] [] [] each = record { moves = []; each = tt; is = refl }
+moved_up [] [] (y ∷ ys) each = absurd each
+moved_up [] (s ∷ ss) ys each = absurd each
+moved_up (n ∷ ns) [] ys each = absurd each
+moved_up (n ∷ ns) (s ∷ ss) [] each = absurd each
+moved_up (n ∷ ns) (s ∷ ss) (y ∷ ys) each =
+    let rest : Moves ns ss (total ys -ℤ pos (down ns ss)) = moved_up ns ss ys each.1 in
+    let far : ℕ = cond (falls s) ((n - 1) * unsigned_abs s) 0 in
+    let is : total rest.moves ≡ total ys -ℤ pos (down ns ss) = rest.is in
+    let sum : (y -ℤ pos far) +ℤ total rest.moves ≡ (y +ℤ total ys) -ℤ pos (far + down ns ss) = omega (arith, ints) in
+    record { moves = (y -ℤ pos far) ∷ rest.moves; each = (move_up n s y each.0, rest.each); is = sum }
+
+moved_down : (ns : List ℕ) (ss ys : List ℤ) → Each Count ns ss ys → Moves ns ss (pos (up ns ss) -ℤ total ys)
+moved_down [] [] [] each = record { moves = []; each = tt; is = refl }
+moved_down [] [] (y ∷ ys) each = absurd each
+moved_down [] (s ∷ ss) ys each = absurd each
+moved_down (n ∷ ns) [] ys each = absurd each
+moved_down (n ∷ ns) (s ∷ ss) [] each = absurd each
+moved_down (n ∷ ns) (s ∷ ss) (y ∷ ys) each =
+    let rest : Moves ns ss (pos (up ns ss) -ℤ total ys) = moved_down ns ss ys each.1 in
+    let far : ℕ = cond (falls s) 0 ((n - 1) * unsigned_abs s) in
+    let is : total rest.moves ≡ pos (up ns ss) -ℤ total ys = rest.is in
+    let sum : (pos far -ℤ y) +ℤ total rest.moves ≡ pos (far + up ns ss) -ℤ (y +ℤ total ys) = omega (arith, ints) in
+    record { moves = (pos far -ℤ y) ∷ rest.moves; each = (move_down n s y each.0, rest.each); is = sum }
 
 lowest : (ns : List ℕ) (ss : List ℤ) → length ss ≡ length ns → list_all (nat_le 1) ns ≡ true → Moves ns ss (pos 0 -ℤ pos (down ns ss))
 lowest [] [] same some = record { moves = []; each = tt; is = refl }
@@ -289,6 +378,27 @@ shared_leads v w least top bottom greatest x law law' all there all' there' here
     let same : second.target ≡ greatest - least = omega (arith, ints) in
     (order, subst (LeadTo (with_dimensions w.lengths w.strides (with_dimensions v.lengths v.strides []))) same second.there)
 
+-- and steps that lead there meet a common element
+pub leads_shared : (v w : Strided) (least top bottom greatest : ℕ) → is_view v ≡ true → is_view w ≡ true → list_all (lies least top) (elements v) ≡ true → has (elements v) least ≡ true
+    → list_all (lies bottom greatest) (elements w) ≡ true → has (elements w) greatest ≡ true → least ≤ greatest
+    → LeadTo (with_dimensions w.lengths w.strides (with_dimensions v.lengths v.strides [])) (greatest - least) → share (elements v) (elements w) ≡ true
+leads_shared v w least top bottom greatest law law' all there all' there' order led =
+    let low : pos least ≡ pos v.start -ℤ pos (down v.lengths v.strides) = least_is v least top law all there in
+    let high : pos greatest ≡ pos w.start +ℤ pos (up w.lengths w.strides) = greatest_is w bottom greatest law' all' there' in
+    let back : Off w.lengths w.strides (with_dimensions v.lengths v.strides []) (greatest - least) =
+    off w.lengths w.strides (with_dimensions v.lengths v.strides []) (greatest - least) (same_rank w law') (lawful w law').lengths led in
+    let front : Off v.lengths v.strides [] back.left = off v.lengths v.strides [] back.left (same_rank v law) (lawful v law).lengths back.there in
+    let here = element_reached v (total front.counts -ℤ pos (down v.lengths v.strides)) law (moved_up v.lengths v.strides front.counts front.each) in
+    let other = element_reached w (pos (up w.lengths w.strides) -ℤ total back.counts) law' (moved_down w.lengths w.strides back.counts back.each) in
+    let here_is : pos here.0 ≡ pos v.start +ℤ (total front.counts -ℤ pos (down v.lengths v.strides)) = here.1.0 in
+    let other_is : pos other.0 ≡ pos w.start +ℤ (pos (up w.lengths w.strides) -ℤ total back.counts) = other.1.0 in
+    let back_is : pos (greatest - least) ≡ pos back.left +ℤ total back.counts = back.is in
+    let front_is : pos back.left ≡ pos front.left +ℤ total front.counts = front.is in
+    let end : front.left ≡ 0 = front.there in
+    let gap : pos (greatest - least) +ℤ pos least ≡ pos greatest = (let o : (greatest - least) + least ≡ greatest = omega arith in ap pos o) in
+    let same : other.0 ≡ here.0 = omega (arith, ints) in
+    at_shared (elements v) (elements w) here.0 here.1.1 (subst (λ x. has (elements w) x ≡ true) same other.1.1)
+
 pub never_shared : (xs ys : List ℕ) → ((x : ℕ) → has xs x ≡ true → has ys x ≡ true → ⊥) → share xs ys ≡ false
 never_shared [] ys never = refl
 never_shared (x ∷ xs) ys never =
@@ -316,3 +426,17 @@ next_dimension ns ss i legs more same low h t led =
 
 pub no_dimension : (ns : List ℕ) (ss : List ℤ) (i : ℕ) (legs : List Leg) (t : ℕ) → length ns ≤ i → LeadTo (with_dimensions (drop i ns) (drop i ss) legs) t → LeadTo legs t
 no_dimension ns ss i legs t done led = subst (λ xs. LeadTo (with_dimensions xs (drop i ss) legs) t) (drop_all i ns done) led
+
+-- ---- and the same backwards
+
+pub next_dimension_back : (ns : List ℕ) (ss : List ℤ) (i : ℕ) (legs more : List Leg) → length ss ≡ length ns → i < length ns
+    → ((t : ℕ) → LeadTo more t → LeadTo (cond (unsigned_abs (get_or ss i (pos 0)) == 0) legs (record { places = get_or ns i 0; step = unsigned_abs (get_or ss i (pos 0)) } ∷ legs)) t)
+    → (t : ℕ) → LeadTo (with_dimensions (drop (i + 1) ns) (drop (i + 1) ss) more) t → LeadTo (with_dimensions (drop i ns) (drop i ss) legs) t
+next_dimension_back ns ss i legs more same low h t led =
+    let a : get_or ns i 0 ∷ drop (i + 1) ns ≡ drop i ns = sym (drop_more ns i 0 low) in
+    let b : get_or ss i (pos 0) ∷ drop (i + 1) ss ≡ drop i ss = sym (drop_more ss i (pos 0) (omega arith)) in
+    subst (λ xs. LeadTo (with_dimensions xs (drop i ss) legs) t) a (subst (λ ys. LeadTo (with_dimensions (get_or ns i 0 ∷ drop (i + 1) ns) ys legs) t) b
+    (more_dimensions (drop (i + 1) ns) (drop (i + 1) ss) more (cond (unsigned_abs (get_or ss i (pos 0)) == 0) legs (record { places = get_or ns i 0; step = unsigned_abs (get_or ss i (pos 0)) } ∷ legs)) h t led))
+
+pub no_dimension_back : (ns : List ℕ) (ss : List ℤ) (i : ℕ) (legs : List Leg) (t : ℕ) → length ns ≤ i → LeadTo legs t → LeadTo (with_dimensions (drop i ns) (drop i ss) legs) t
+no_dimension_back ns ss i legs t done led = subst (λ xs. LeadTo (with_dimensions xs (drop i ss) legs) t) (sym (drop_all i ns done)) led

@@ -1,17 +1,20 @@
 //! Classes of identical views, counted from 0 in the order of first sight.
-ghost use Rattle.std.specs.Prelude.{ℕ, ◌<◌, ◌≡◌, ◌≤◌, IfOk, OnOk, IsSome, None, length, map, position, get_or, take, true};
+ghost use Rattle.std.specs.Prelude.{ℕ, ◌<◌, ◌≡◌, ◌≤◌, IfOk, OnOk, IsSome, None, length, map, position, get_or, take};
 ghost use Rattle.arr_view.specs.Views.{identical, overlap};
 ghost use Rattle.arr_overlap.specs.Classes.{firsts, overlaps_among, view_at, AreMarks, AreOutlines};
 
 use crate::NoMemory;
 use crate::filters::{Outline, outline_of, told_apart};
 use crate::meeting::marked;
-use crate::pairs::steps_miss;
+use crate::pairs::told_by_steps;
 use arr_sets::Bits;
 use arr_view::View;
 use indexmap::IndexSet;
 use std::alloc::Global;
 use std::marker::Model;
+
+/// Classes are made of at most so many views.
+pub const MOST_VIEWS: u32 = 1_048_576;
 
 /// The classes of some views: two views are of one class exactly where they are identical (docs/PLANS.md, "Views").
 /// A contract sees the first view of each class, in the order of first sight.
@@ -27,12 +30,13 @@ impl Model for Classes {
     ghost use Rattle.arr_view.specs.Strided.{Strided};
     ghost use Rattle.arr_view.specs.Views.{is_view};
     ghost use Rattle.arr_overlap.specs.Classes.{overlaps_among};
+    ghost use Rattle.arr_overlap.specs.declared.classes.TheConstants.{MOST_VIEWS};
 
     ghost Value = { List Strided };
 
     ghost view = { λ c. c.views.keys };
 
-    ghost invariant = { λ c. (length c.views.keys ≤ 1048576) × (list_all is_view c.views.keys ≡ true) × (c.rows.items ≡ overlaps_among c.views.keys) };
+    ghost invariant = { λ c. (length c.views.keys ≤ MOST_VIEWS) × (list_all is_view c.views.keys ≡ true) × (c.rows.items ≡ overlaps_among c.views.keys) };
 }
 
 /// Where the elements of each view lie.
@@ -76,22 +80,7 @@ fn mark(
     Ok(())
 }
 
-/// Whether the view at a place has marks, and the start of the view at another place is among them; the views have one base.
-fn has_start(views: &[View], marks: &[Option<Bits>], at: usize, other: usize) -> bool
-    requires at { at < length views.now }
-    requires other { other < length views.now }
-    requires base { (view_at views.now at).base ≡ (view_at views.now other).base }
-    requires marked { AreMarks marks.now views.now }
-    ensures { result ≡ true → overlap (view_at views.now at) (view_at views.now other) ≡ true }
-{
-    match &marks[at] {
-        Some(row) => row.has(views[other].start()),
-        None => false,
-    }
-}
-
-/// Whether the views at two places overlap. Where the outlines don't tell, the elements of the first are marked; where the start of the
-/// other is not among them, and the strides don't tell either, those of the other too.
+/// Whether the views at two places overlap. Where neither their outlines nor their strides tell, the elements of both are marked.
 fn met(
     alloc: Global,
     views: &[View],
@@ -116,13 +105,10 @@ fn met(
     if told_apart(&outlines[at], &outlines[other]) {
         return Ok(false);
     }
+    if let Some(told) = told_by_steps(&views[at], &views[other]) {
+        return Ok(told);
+    }
     mark(alloc, views, marks, at)?;
-    if has_start(views, marks.as_slice(), at, other) {
-        return Ok(true);
-    }
-    if steps_miss(&views[at], &views[other]) {
-        return Ok(false);
-    }
     mark(alloc, views, marks, other)?;
     match (&marks[at], &marks[other]) {
         (Some(here), Some(there)) => Ok(here.meets(there)),
@@ -139,7 +125,7 @@ fn row_of(
     rows: &[Bits],
 ) -> Result<Bits, NoMemory>
     requires more { length rows.now < length views.now }
-    requires few { length views.now ≤ 1048576 }
+    requires few { length views.now ≤ MOST_VIEWS }
     requires outlined { AreOutlines (length views.now) outlines.now views.now }
     requires marked { AreMarks marks.old.items views.now }
     requires rows { rows.now ≡ map (λ v. map (overlap v) views.now) (take (length rows.now) views.now) }
@@ -163,7 +149,7 @@ fn row_of(
 
 /// For each view a row of the views that overlap it.
 fn rows_of(alloc: Global, views: &[View]) -> Result<Vec<Bits>, NoMemory>
-    requires { length views.now ≤ 1048576 }
+    requires { length views.now ≤ MOST_VIEWS }
     ensures { IfOk result (λ rows. rows.items ≡ overlaps_among views.now) }
 {
     let outlines = all_outlines(alloc, views)?;
@@ -182,9 +168,9 @@ fn rows_of(alloc: Global, views: &[View]) -> Result<Vec<Bits>, NoMemory>
 }
 
 impl Classes {
-    /// The classes of at most 1,048,576 views; want of memory where they can't be kept (docs/PLANS.md, "Views").
+    /// The classes of at most `MOST_VIEWS` views; want of memory where they can't be kept (docs/PLANS.md, "Views").
     pub fn of(alloc: Global, views: &[View]) -> Result<Classes, NoMemory>
-        requires { length views.now ≤ 1048576 }
+        requires { length views.now ≤ MOST_VIEWS }
         ensures { IfOk result (λ c. c ≡ firsts views.now) }
     {
         let mut first_views = IndexSet::new(alloc);

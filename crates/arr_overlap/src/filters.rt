@@ -7,7 +7,7 @@ ghost use Rattle.arr_overlap.specs.Filters.{divides, is_spaced, IsOutline};
 
 use crate::alike::identical;
 use crate::fronts::first_row;
-use crate::pairs::steps_miss;
+use crate::pairs::told_by_steps;
 use arr_view::View;
 
 /// Where the elements of a view lie.
@@ -123,7 +123,7 @@ pub(crate) fn told_apart(a: &Outline, b: &Outline) -> bool
 }
 
 /// Whether the views overlap, where that is told without a walk: views of different bases don't, identical views do, and views don't
-/// whose outlines or strides tell them apart.
+/// whose outlines tell them apart; of other views the strides may tell.
 pub(crate) fn decided(a: &View, b: &View) -> Option<bool>
     ensures value { IfSome result (λ r. r ≡ overlap a.now b.now) }
     ensures bases { (a.now.base == b.now.base) ≡ false → result ≡ Some false }
@@ -138,8 +138,5 @@ pub(crate) fn decided(a: &View, b: &View) -> Option<bool>
     if told_apart(&outline_of(a), &outline_of(b)) {
         return Some(false);
     }
-    if steps_miss(a, b) {
-        return Some(false);
-    }
-    None
+    told_by_steps(a, b)
 }

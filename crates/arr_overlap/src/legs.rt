@@ -1,7 +1,8 @@
 //! Where steps of given sizes lead.
-ghost use Rattle.std.specs.Prelude.{ℕ, ◌≡◌, ◌≤◌, ◌<◌, ◌+◌, [], ◌∷◌, Some, true, false, length};
+ghost use Rattle.std.specs.Prelude.{ℕ, ◌≡◌, ◌≤◌, ◌<◌, ◌+◌, ◌-◌, ◌*◌, ◌/◌, [], ◌∷◌, Some, true, false, length};
 ghost use Rattle.arr_overlap.specs.Legs.{reach, AreLegs, LeadTo};
 
+use crate::turns::{Turns, first_count, turns_of};
 use arrayvec::ArrayVec;
 
 /// Steps of one size, up from 0.
@@ -26,9 +27,53 @@ pub(crate) fn reach(legs: &[Leg]) -> u64
     reach
 }
 
+/// What tells how many steps of the last leg but one leave a multiple of the last one's step.
+fn last_turns(legs: &[Leg]) -> Turns
+    requires { AreLegs 8 legs.now }
+{
+    let count = legs.len();
+    if count < 2 {
+        return Turns::default();
+    }
+    turns_of(legs[count - 2].step, legs[count - 1].step)
+}
+
+/// Whether some steps along one leg, so many at least and at most, and some along one other lead from 0 to a target; `None` where there
+/// is not one other.
+fn lead_by_two(
+    leg: Leg,
+    others: &[Leg],
+    turns: Turns,
+    target: u64,
+    least: u64,
+    most: u64,
+) -> Option<bool>
+    requires legs { AreLegs 8 (leg ∷ others.now) }
+    requires most { (most < leg.places) × (most ≤ target / leg.step) }
+    ensures reached { result ≡ Some true → LeadTo (leg ∷ others.now) target }
+    ensures missed { result ≡ Some false → (k : ℕ) → least ≤ k → k ≤ most → LeadTo others.now (target - k * leg.step) → ⊥ }
+{
+    if others.len() != 1 {
+        return None;
+    }
+    let other = others[0];
+    let Some(count) = first_count(turns, leg.step, other.step, target, least) else {
+        return Some(false);
+    };
+    if count > most {
+        return Some(false);
+    }
+    let left = target - count * leg.step;
+    if left % other.step == 0 && left / other.step < other.places {
+        Some(true)
+    } else {
+        None
+    }
+}
+
 /// Whether steps along the legs lead from 0 to a target; `None` where it may take more tries than are allowed. Only as many steps of a
 /// leg are tried as leave what the others reach: few, where long steps come first.
-fn lead_to(legs: &[Leg], target: u64, tries: u64) -> Option<bool>
+fn lead_on(legs: &[Leg], turns: Turns, target: u64, tries: u64) -> Option<bool>
     requires { AreLegs 8 legs.now }
     ensures reached { result ≡ Some true → LeadTo legs.now target }
     ensures missed { result ≡ Some false → LeadTo legs.now target → ⊥ }
@@ -40,15 +85,24 @@ fn lead_to(legs: &[Leg], target: u64, tries: u64) -> Option<bool>
     let most = (target / leg.step).min(leg.places - 1);
     let counts = (most + 1).saturating_sub(least);
     if counts > tries {
-        return None;
+        return lead_by_two(*leg, others, turns, target, least, most);
     }
     let left = tries / counts.max(1);
     for count in least..most + 1 {
-        if lead_to(others, target - count * leg.step, left)? {
+        if lead_on(others, turns, target - count * leg.step, left)? {
             return Some(true);
         }
     }
     Some(false)
+}
+
+/// Whether steps along the legs lead from 0 to a target; `None` where so many tries may not tell. The last two legs need none.
+pub(crate) fn lead_to(legs: &[Leg], target: u64, tries: u64) -> Option<bool>
+    requires { AreLegs 8 legs.now }
+    ensures reached { result ≡ Some true → LeadTo legs.now target }
+    ensures missed { result ≡ Some false → LeadTo legs.now target → ⊥ }
+{
+    lead_on(legs, last_turns(legs), target, tries)
 }
 
 /// Whether so many tries tell that no steps along the legs lead from 0 to a target.

@@ -4,11 +4,11 @@ ghost use Rattle.arr_view.specs.Views.{is_view, repeats};
 ghost use Rattle.arr_overlap.specs.Legs.{both_ways_of, reach, AreLegs, IsOpen, LeadTo};
 
 use crate::legs::{Leg, add, miss, reach};
-use arr_view::View;
+use arr_view::{MOST_ELEMENTS, View};
 use arrayvec::ArrayVec;
 
 /// As many as a walk over the largest view takes steps.
-const MOST_TRIES: u64 = 1_048_576;
+const MOST_TRIES: u64 = MOST_ELEMENTS as u64;
 
 /// Whether a dimension longer than 1 stays at one element.
 fn stands_still(view: &View) -> bool
@@ -27,7 +27,7 @@ fn stands_still(view: &View) -> bool
 /// are longer then by these steps, up and down.
 fn leads_back(legs: &mut ArrayVec<Leg, 8>, length: u64, step: u64) -> bool
     requires legs { AreLegs 6 legs.old.items }
-    requires length { (2 ≤ length) × (length ≤ 1048576) }
+    requires length { (2 ≤ length) × (length ≤ MOST_ELEMENTS) }
     requires step { step ≤ 2147483648 }
     ensures free { result ≡ false → IsOpen length step legs.old.items }
     ensures legs { result ≡ false → (k : ℕ) → AreLegs k legs.old.items → AreLegs (k + 2) legs.new.items }

@@ -15,7 +15,7 @@ use crate::meetings::Meetings;
 use crate::replaced::replacement;
 use crate::rules::copies_itself;
 use crate::unused::{remove_frees, unused_base};
-use arr_ops::Op;
+use arr_ops::{Op, copied_ops};
 use std::alloc::{AllocError as NoMemory, Global};
 
 /// Lets the operation at the place become another, where a rule says so. The places before it stay settled: the output is the same.
@@ -134,16 +134,6 @@ fn rewrite_once(
     }
 }
 
-fn copied(alloc: Global, ops: &[Op]) -> Result<Vec<Op>, NoMemory>
-    ensures { IfOk result (λ copy. copy.items ≡ ops.now) }
-{
-    let mut copy = Vec::with_capacity(alloc, ops.len())?;
-    for op in ops {
-        copy.push(op.copied())?;
-    }
-    Ok(copy)
-}
-
 /// The normal form of a formed list: the application of least place, then of the earliest rule, then of the earlier operand is made
 /// until none applies. From every memory that fits the list it fits the normal form too, which leaves the same memory. Want of memory
 /// is its one refusal (docs/PLANS.md, "Rewriting").
@@ -155,7 +145,7 @@ pub fn rewrite(alloc: Global, ops: &[Op]) -> Result<Vec<Op>, NoMemory>
     ensures fitting { (m : Memory) → fits m ops.now ≡ true → IfOk result (λ list. fits m list.items ≡ true) }
     ensures memory { (m : Memory) → fits m ops.now ≡ true → IfOk result (λ list. eager m list.items ≡ eager m ops.now) }
 {
-    let mut list = copied(alloc, ops)?;
+    let mut list = copied_ops(alloc, ops)?;
     let mut meetings = Meetings::new(alloc, ops)?;
     let mut settled = 0;
     'applications: while let Some(place) = rewrite_once(&mut meetings, &mut list, settled)? {

@@ -1,4 +1,4 @@
-use Rattle.std.proofs.Common.{◌≡◌, ◌∙◌, ◌+◌, ◌*◌, ◌<◌, ◌≤◌, ap, ap₂, sym, arith, cond, get_or}
+use Rattle.std.proofs.Common.{◌≡◌, ◌∙◌, ◌+◌, ap, arith, cond, get_or}
 use Rattle.arr_cost.specs.Footprints.{has_bit, span}
 use Rattle.arr_cost.proofs.Digits.{no_bit, span_next, span_none}
 use Rattle.arr_cost.proofs.footprints.add_weights.Goals as goal

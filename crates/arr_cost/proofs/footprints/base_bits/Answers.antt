@@ -1,7 +1,6 @@
 use Rattle.std.proofs.Common.{◌∙◌, ◌+◌, ◌||◌, ◌&&◌, ap₂}
 use Rattle.std.specs.Prelude.{◌==◌}
 use Rattle.arr_cost.specs.Footprints.{base_bit}
-use Rattle.arr_cost.proofs.Digits.{no_bit}
 use Rattle.arr_cost.proofs.Prints.{next_below}
 use Rattle.arr_cost.proofs.footprints.base_bits.Goals as goal
 

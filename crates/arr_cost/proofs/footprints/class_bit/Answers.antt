@@ -1,7 +1,7 @@
-use Rattle.std.proofs.Common.{◌≡◌, ◌∙◌, ◌+◌, ◌-◌, ◌<◌, ◌≤◌, ◌||◌, true, false, Some, ap, sym, arith, refl}
+use Rattle.std.proofs.Common.{◌∙◌, ◌+◌, ◌-◌, ap, sym, arith}
 use Rattle.arr_cost.specs.Footprints.{is_class}
 use Rattle.arr_cost.proofs.Digits.{one_bit}
-use Rattle.arr_cost.proofs.Prints.{off_class, on_class}
+use Rattle.arr_cost.proofs.Prints.{on_class}
 use Rattle.arr_cost.proofs.footprints.class_bit.Goals as goal
 
 pub returns : goal.returns

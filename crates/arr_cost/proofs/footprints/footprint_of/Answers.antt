@@ -1,6 +1,6 @@
-use Rattle.std.proofs.Common.{◌≡◌, ◌∙◌, ◌+◌, ◌*◌, ◌/◌, ◌%◌, ◌<◌, ◌++◌, ◌∷◌, [], ℕ, List, get_or, length, ap, sym, subst, arith}
+use Rattle.std.proofs.Common.{◌≡◌, ◌∙◌, ◌+◌, ◌*◌, ◌/◌, ◌%◌, ◌++◌, ◌∷◌, [], get_or, length, ap, arith}
 use Rattle.std.proofs.lemmas.List.{length-append}
-use Rattle.arr_cost.specs.Footprints.{has_bit, reads_class, row_for, writes_class}
+use Rattle.arr_cost.specs.Footprints.{reads_class, writes_class}
 use Rattle.arr_cost.specs.Touches.{frees_number, makes_number}
 use Rattle.arr_cost.proofs.Prints.{row_pushed, Tells}
 use Rattle.arr_cost.proofs.footprints.footprint_of.Goals as goal

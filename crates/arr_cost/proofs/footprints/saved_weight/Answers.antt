@@ -1,4 +1,4 @@
-use Rattle.std.proofs.Common.{refl, ◌≡◌, ◌∙◌, ◌+◌, ◌*◌, ◌%◌, ◌<◌, ◌≤◌, ◌&&◌, ap, sym, arith, length, min}
+use Rattle.std.proofs.Common.{refl, ◌≡◌, ◌∙◌, ◌+◌, ◌*◌, ◌%◌, ◌&&◌, ap, arith, length, min}
 use Rattle.arr_cost.specs.Footprints.{keeps_class, loses, row_for, span}
 use Rattle.arr_cost.proofs.Digits.{span_zero}
 use Rattle.arr_cost.proofs.Prints.{saved_turn}

@@ -8,7 +8,7 @@ use Rattle.arr_heur.specs.Planners.{greedy_within, saving, singles}
 use Rattle.arr_greedy.specs.Blocks.{live, Keyed}
 use Rattle.arr_greedy.specs.Fast.{amount, block_at, by_step, flag, Told}
 use Rattle.arr_greedy.proofs.Begun.{forward_at, started}
-use Rattle.arr_greedy.proofs.Grids.{written_back}
+use Rattle.arr_cost.proofs.Marking.{written_back}
 use Rattle.arr_greedy.proofs.GreedyBlocks.{begun_at, begun_keyed, begun_live, begun_long, clear_flag, single}
 use Rattle.arr_greedy.proofs.KeyedBlocks.{numbers_are}
 use Rattle.arr_greedy.proofs.Opening.{keys_start, told_start}

@@ -1,5 +1,6 @@
-use Rattle.std.proofs.Common.{◌≡◌, ◌∙◌, Bool, Some, None, true, false, get_or, refl, ap, ap₂, length, sym, arith}
-use Rattle.std.specs.Prelude.{◌==◌, ◌&&◌}
+use Rattle.std.proofs.Common.{◌≡◌, ◌∙◌, Some, None, true, get_or, ap, ap₂, length, subst, sym, arith}
+use Rattle.std.specs.Prelude.{◌&&◌, IfSome}
+use Rattle.std.proofs.lemmas.Bool.{eq-eqb}
 use Rattle.arr_view.specs.Strided.{Strided}
 use Rattle.arr_view.specs.Views.{elements, is_view, overlap, share}
 use Rattle.arr_overlap.specs.Classes.{view_at}
@@ -29,16 +30,16 @@ returns-in-Some-Some-clause-value c =
     any_default marks c.args.other None c.index-2.result.now (let l = c.requires.other in omega arith) ∙ sym c.index-2.ensures ∙ c.in-Some-Some.is-1 in
     c.meets.ensures ∙ marks_decide views marks c.args.at c.args.other c.in-Some-Some.here c.in-Some-Some.there c.in_ok-mark-2.ensures.marked c.requires.at c.requires.other law same row other
 
-and_none : (b : Bool) → (b && false) ≡ false
-and_none true = refl
-and_none false = refl
-
-pub returns-then-steps_miss-clause-value : goal.returns-then-steps_miss-clause-value
-returns-then-steps_miss-clause-value c =
+pub returns-in-Some-clause-value : goal.returns-in-Some-clause-value
+returns-in-Some-clause-value c =
     let views = c.args.views.now in
     let v : Strided = c.index-views-at-2.result in
     let w : Strided = c.index-views-other-2.result in
     let here : view_at views c.args.at ≡ v = view_there views c.args.at v c.requires.at c.index-views-at-2.is in
     let there : view_at views c.args.other ≡ w = view_there views c.args.other w c.requires.other c.index-views-other-2.is in
-    let none : share (elements v) (elements w) ≡ false = c.steps_miss.ensures c.if-steps_miss.true in
-    sym (ap₂ overlap here there ∙ ap (λ b. (v.base == w.base) && b) none ∙ and_none (v.base == w.base))
+    let first : view_at views c.args.at ≡ c.index-views-at.result = view_there views c.args.at c.index-views-at.result c.requires.at c.index-views-at.is in
+    let second : view_at views c.args.other ≡ c.index-views-other.result = view_there views c.args.other c.index-views-other.result c.requires.other c.index-views-other.is in
+    let same : (view_at views c.args.at).base ≡ (view_at views c.args.other).base =
+    ap (λ (x : Strided). x.base) first ∙ sym c.base.ensures.value ∙ c.if-base.false ∙ c.base-2.ensures.value ∙ sym (ap (λ (x : Strided). x.base) second) in
+    let shared : c.in-Some.told ≡ share (elements v) (elements w) = subst (λ o. IfSome o (λ r. r ≡ share (elements v) (elements w))) c.in-Some.is c.told_by_steps.ensures in
+    shared ∙ sym (ap₂ (λ x y. share (elements x) (elements y)) here there) ∙ sym (ap (λ b. b && share (elements (view_at views c.args.at)) (elements (view_at views c.args.other))) (eq-eqb (view_at views c.args.at).base (view_at views c.args.other).base same))

@@ -9,13 +9,13 @@ use Rattle.arr_view.proofs.Checks.{lawful, same_rank}
 use Rattle.arr_overlap.specs.Legs.{is_leg, AreLegs, LeadTo}
 use Rattle.arr_overlap.specs.declared.legs.Leg.{Leg}
 use Rattle.arr_overlap.proofs.Leading.{of_more_dimensions, within}
-use Rattle.arr_overlap.proofs.Shared.{next_dimension, no_dimension}
+use Rattle.arr_overlap.proofs.Shared.{next_dimension, next_dimension_back, no_dimension, no_dimension_back}
 use Rattle.arr_overlap.proofs.Steps.{each_length}
 use Rattle.arr_overlap.proofs.pairs.add_dimensions.Goals as goal
 use Rattle.arr_overlap.proofs.pairs.add_dimensions.Goals.{then-step-gt0, else-step-gt0}
 
 pub loop-axis-init : goal.loop-axis-init
-loop-axis-init c = record { are = λ k h. of_more_dimensions k (k + 0) c.args.legs.now.items (omega arith) h; led = λ t h. h }
+loop-axis-init c = record { are = λ k h. of_more_dimensions k (k + 0) c.args.legs.now.items (omega arith) h; led = λ t h. h; back = λ t h. h }
 
 pub bounds-strides-axis : goal.bounds-strides-axis
 bounds-strides-axis c =
@@ -76,6 +76,9 @@ loop-axis-preserved c =
             led = λ t h.
                 next_dimension v.lengths v.strides i legs c.if-step-gt0.legs.items same below
                 (λ u led. subst (λ ls. LeadTo ls u) up (w.add.ensures.missed u (subst (λ x. LeadTo (x ∷ legs) u) (sym same_leg) (subst (λ b. LeadTo (cond b legs (leg ∷ legs)) u) some led)))) t (c.loop-axis.invariant.led t h);
+            back = λ t h.
+                c.loop-axis.invariant.back t (next_dimension_back v.lengths v.strides i legs c.if-step-gt0.legs.items same below
+                (λ u led. subst (λ b. LeadTo (cond b legs (leg ∷ legs)) u) (sym some) (subst (λ x. LeadTo (x ∷ legs) u) same_leg (w.add.ensures.reached u (subst (λ ls. LeadTo ls u) (sym up) led)))) t h);
           }
       | else-step-gt0 w ↦
           let up : legs ≡ c.if-step-gt0.legs.items = sym (ap (λ ls. ls.items) w.legs-is) in
@@ -86,6 +89,9 @@ loop-axis-preserved c =
             are = λ k h. subst (AreLegs (k + (i + 1))) up (of_more_dimensions (k + i) (k + (i + 1)) legs (omega arith) (c.loop-axis.invariant.are k h));
             led = λ t h.
                 next_dimension v.lengths v.strides i legs c.if-step-gt0.legs.items same below (λ u led. subst (λ ls. LeadTo ls u) up (subst (λ b. LeadTo (cond b legs (leg ∷ legs)) u) none led)) t (c.loop-axis.invariant.led t h);
+            back = λ t h.
+                c.loop-axis.invariant.back t (next_dimension_back v.lengths v.strides i legs c.if-step-gt0.legs.items same below
+                (λ u led. subst (λ b. LeadTo (cond b legs (leg ∷ legs)) u) (sym none) (subst (λ ls. LeadTo ls u) (sym up) led)) t h);
           }
     ]
 
@@ -102,3 +108,9 @@ returns-clause-missed c t h =
     let v : Strided = c.args.view.now in
     let done : length v.lengths ≤ c.loop-axis.axis = subst (λ xs. length xs ≤ c.loop-axis.axis) c.shape-length-items.ensures.value c.loop-axis-test.false in
     no_dimension v.lengths v.strides c.loop-axis.axis c.loop-axis.legs.items t done (c.loop-axis.invariant.led t h)
+
+pub returns-clause-reached : goal.returns-clause-reached
+returns-clause-reached c t h =
+    let v : Strided = c.args.view.now in
+    let done : length v.lengths ≤ c.loop-axis.axis = subst (λ xs. length xs ≤ c.loop-axis.axis) c.shape-length-items.ensures.value c.loop-axis-test.false in
+    c.loop-axis.invariant.back t (no_dimension_back v.lengths v.strides c.loop-axis.axis c.loop-axis.legs.items t done h)

@@ -8,6 +8,7 @@ invariant-loop-item g l = record {
   same : Told (unread g.S.Source l.fn.self l.fn.source) (unread g.S.Source l.self l.source) (λ a b. a ≡ b);
   met : HasMetEnd g.S.Source l.self l.source;
   over : l.self.over ≡ l.fn.self.over;
+  on : l.fn.self.next_line ≤ l.self.next_line;
   later : g.S.Source.faults l.fn.source ≤ g.S.Source.faults l.source;
 }
 

@@ -1,4 +1,4 @@
-use Rattle.std.proofs.Common.{◌∙◌, ◌+◌, ◌++◌, ◌∷◌, [], ℕ, List, get_or, take, refl, sym, subst}
+use Rattle.std.proofs.Common.{◌∷◌, [], ℕ, List, get_or, take, sym, subst}
 use Rattle.std.proofs.lemmas.List.{take_all, take_more}
 use Rattle.arr_cost.specs.Footprints.{IsFootprint}
 use Rattle.arr_cost.proofs.Prints.{none_print}

@@ -1,7 +1,6 @@
-use Rattle.std.proofs.Common.{◌≡◌, ◌∙◌, ◌+◌, ◌/◌, ◌<◌, ◌++◌, ◌∷◌, [], ap, ap₂, length, min, arith}
-use Rattle.arr_cost.specs.Footprints.{bases_of, blank, join}
-use Rattle.std.proofs.lemmas.List.{length-append}
-use Rattle.arr_cost.proofs.Prints.{footprints_join, row_pushed}
+use Rattle.std.proofs.Common.{◌≡◌, ◌+◌, ◌/◌, ap, length, arith}
+use Rattle.arr_cost.specs.Footprints.{bases_of}
+use Rattle.arr_cost.proofs.Prints.{footprints_join}
 use Rattle.arr_cost.proofs.footprints.Footprint.joined.Goals as goal
 
 pub returns : goal.returns

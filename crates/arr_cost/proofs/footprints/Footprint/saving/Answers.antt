@@ -1,4 +1,4 @@
-use Rattle.std.proofs.Common.{◌≡◌, ◌∙◌, ◌+◌, ◌*◌, ◌%◌, ◌&&◌, ap₂, length, min}
+use Rattle.std.proofs.Common.{◌∙◌, ◌+◌, ◌*◌, ◌%◌, ◌&&◌, ap₂, length, min}
 use Rattle.arr_cost.specs.Footprints.{keeps_class, loses, row_for, span}
 use Rattle.arr_cost.proofs.footprints.Footprint.saving.Goals as goal
 

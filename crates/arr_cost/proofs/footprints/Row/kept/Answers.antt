@@ -1,4 +1,4 @@
-use Rattle.std.proofs.Common.{rules, refl, ◌≡◌, ◌<◌, ◌^◌, ◌-◌, ◌∙◌, ◌&&◌, ◌||◌, ap₂, not, bit_and, bit_or}
+use Rattle.std.proofs.Common.{rules, refl, ◌≡◌, ◌<◌, ◌^◌, ◌-◌, ◌∙◌, ◌&&◌, ◌||◌, ap₂, bit_and}
 use Rattle.arr_cost.specs.Footprints.{has_bit}
 use Rattle.arr_cost.proofs.Digits.{and_bit, not_bit, or_bit}
 use Rattle.arr_cost.proofs.footprints.Row.kept.Goals as goal

@@ -1,4 +1,4 @@
-use Rattle.std.proofs.Common.{rules, ◌≡◌, ◌<◌, ◌^◌, ◌-◌, ◌∙◌, ◌&&◌, ◌||◌, ap, ap₂, not, bit_or}
+use Rattle.std.proofs.Common.{rules, ◌<◌, ◌^◌, ◌-◌, ◌∙◌, ◌&&◌, ◌||◌, ap, ap₂, not, bit_or}
 use Rattle.arr_cost.specs.Footprints.{keeps}
 use Rattle.arr_cost.proofs.Digits.{and_bit, not_bit, or_bit}
 use Rattle.arr_cost.proofs.footprints.Row.lost.Goals as goal

@@ -1,0 +1,5 @@
+pub mod Words
+pub mod Picked
+pub mod Large
+pub mod Tables
+pub mod Whole

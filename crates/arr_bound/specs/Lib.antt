@@ -1,0 +1,4 @@
+pub mod Sets
+pub mod Picks
+pub mod Classes
+pub mod Worth

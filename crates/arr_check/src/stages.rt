@@ -1,0 +1,171 @@
+//! The records of one list, one after another.
+ghost use Rattle.std.specs.Prelude.{◌≡◌, [], IfOk, List, ℕ};
+ghost use Rattle.arr_law.specs.Plans.{price};
+ghost use Rattle.arr_law.specs.Problem.{Problem};
+ghost use Rattle.arr_law.specs.ProblemOf.{problem_of};
+ghost use Rattle.arr_law.specs.Verdict.{end_fault, AtBound, AtCost, AtHead, AtPlan, AtTree, State};
+ghost use Rattle.arr_check.specs.declared.tree.Tree.{Tree};
+ghost use Rattle.arr_check.specs.Stages.{IsAt, IsFresh, Turns};
+ghost use Rattle.arr_check.specs.Steps.{pending, IsTree};
+
+use crate::NoMemory;
+use crate::plan::{plan_fault, price};
+use crate::tables::Tables;
+use crate::tree::Tree;
+use arr_law::{Record, Reject};
+
+/// What comes next, and what of the records before it is still needed.
+#[derive(Clone, Copy)]
+pub(crate) enum Stage {
+    /// The head.
+    Head,
+    /// The plan.
+    Plan { version: u8 },
+    /// What the plan costs.
+    Cost { version: u8, price: u128 },
+    /// The bound.
+    Bound { version: u8, cost: u64 },
+    /// The tree, and then the end.
+    Tree { version: u8, cost: u64, bound: u64 },
+    /// Nothing: all was read.
+    Done { cost: u64, bound: u64 },
+}
+
+fn head(tables: &Tables, number: u32, entry: &Record) -> Result<Stage, Reject>
+    ensures { (tree : Tree) → IsFresh (problem_of tables.now) tree → Turns (problem_of tables.now) number AtHead tree entry.now result }
+{
+    match entry {
+        Record::Flush {
+            number: found,
+            count,
+            version,
+        } => {
+            if *found == number && *count == tables.count() {
+                Ok(Stage::Plan { version: *version })
+            } else {
+                Err(Reject::BadHead)
+            }
+        }
+        _ => Err(Reject::Misplaced),
+    }
+}
+
+fn plan(tables: &Tables, version: u8, entry: &Record) -> Result<Stage, Reject>
+    ensures { (number : ℕ) (tree : Tree) → IsFresh (problem_of tables.now) tree → Turns (problem_of tables.now) number (AtPlan version) tree entry.now result }
+{
+    match entry {
+        Record::Plan(places) => match plan_fault(tables, places) {
+            None => Ok(Stage::Cost {
+                version,
+                price: price(tables, places),
+            }),
+            Some(kind) => Err(kind),
+        },
+        _ => Err(Reject::Misplaced),
+    }
+}
+
+fn cost(version: u8, spent: u128, entry: &Record) -> Result<Stage, Reject>
+    ensures { (problem : Problem) (number : ℕ) (tree : Tree) (places : List ℕ) → IsFresh problem tree → spent ≡ price problem places → Turns problem number (AtCost version places) tree entry.now result }
+{
+    match entry {
+        Record::Cost(cost) => {
+            if u128::from(*cost) == spent {
+                Ok(Stage::Bound {
+                    version,
+                    cost: *cost,
+                })
+            } else {
+                Err(Reject::WrongCost)
+            }
+        }
+        _ => Err(Reject::Misplaced),
+    }
+}
+
+fn bound(version: u8, cost: u64, entry: &Record) -> Result<Stage, Reject>
+    ensures { (problem : Problem) (number : ℕ) (tree : Tree) (places : List ℕ) → IsFresh problem tree → Turns problem number (AtBound version places cost) tree entry.now result }
+{
+    match entry {
+        Record::Bound(bound) => Ok(Stage::Tree {
+            version,
+            cost,
+            bound: *bound,
+        }),
+        _ => Err(Reject::Misplaced),
+    }
+}
+
+/// What is wrong with a record once the tree is whole.
+fn end_fault(entry: &Record) -> Option<Reject>
+    ensures { result ≡ end_fault entry.now }
+{
+    match entry {
+        Record::End => None,
+        Record::Step { .. } | Record::Branch { .. } | Record::Dead { .. } | Record::Worth(_) => {
+            Some(Reject::Trailing)
+        }
+        _ => Some(Reject::Misplaced),
+    }
+}
+
+fn end(cost: u64, bound: u64, entry: &Record) -> Result<Stage, Reject>
+    ensures { (problem : Problem) (number version : ℕ) (tree : Tree) (places : List ℕ) → Turns problem number (AtTree version places cost bound []) tree entry.now result }
+{
+    match end_fault(entry) {
+        None => Ok(Stage::Done { cost, bound }),
+        Some(kind) => Err(kind),
+    }
+}
+
+/// A record of the tree, or the end of the certificate.
+fn grow(
+    tables: &Tables,
+    version: u8,
+    cost: u64,
+    bound: u64,
+    tree: &mut Tree,
+    entry: &Record,
+) -> Result<Result<Stage, Reject>, NoMemory>
+    requires { IsTree (problem_of tables.now) tree.old }
+    ensures turns { IfOk result (λ next. (number : ℕ) (places : List ℕ) → Turns (problem_of tables.now) number (AtTree version places cost bound (pending (problem_of tables.now) tree.old)) tree.new entry.now next) }
+    ensures tree { IfOk result (λ next. IfOk next (λ stage. IsTree (problem_of tables.now) tree.new)) }
+{
+    if tree.whole {
+        return Ok(end(cost, bound, entry));
+    }
+    match tree.read(tables, version, bound, entry)? {
+        Some(kind) => Ok(Err(kind)),
+        None => Ok(Ok(Stage::Tree {
+            version,
+            cost,
+            bound,
+        })),
+    }
+}
+
+/// Reads a record: what comes next, or what is wrong.
+pub(crate) fn read(
+    tables: &Tables,
+    number: u32,
+    stage: Stage,
+    tree: &mut Tree,
+    entry: &Record,
+) -> Result<Result<Stage, Reject>, NoMemory>
+    requires { IsTree (problem_of tables.now) tree.old }
+    ensures turns { IfOk result (λ next. (s : State) → IsAt (problem_of tables.now) stage tree.old s → Turns (problem_of tables.now) number s tree.new entry.now next) }
+    ensures tree { IfOk result (λ next. IfOk next (λ stage. IsTree (problem_of tables.now) tree.new)) }
+{
+    match stage {
+        Stage::Head => Ok(head(tables, number, entry)),
+        Stage::Plan { version } => Ok(plan(tables, version, entry)),
+        Stage::Cost { version, price } => Ok(cost(version, price, entry)),
+        Stage::Bound { version, cost } => Ok(bound(version, cost, entry)),
+        Stage::Tree {
+            version,
+            cost,
+            bound,
+        } => grow(tables, version, cost, bound, tree, entry),
+        Stage::Done { .. } => Ok(Err(Reject::Misplaced)),
+    }
+}

@@ -1,0 +1,33 @@
+-- The numbers at one position of views, and what is loaded for one result.
+use Rattle.std.specs.Prelude.{ℕ, suc, ◌*◌, Bool, false, cond, drop, length, Option, Some}
+use Rattle.arr_num.specs.Kinds.{is_reduction}
+use Rattle.arr_num.specs.Numbers.{width}
+use Rattle.arr_view.specs.Strided.{Strided}
+use Rattle.arr_view.specs.Views.{identical, positions}
+use Rattle.arr_ops.specs.declared.op.Op.{Op}
+use Rattle.arr_ops.specs.Costs.{distinct}
+use Rattle.arr_ops.specs.Memory.{Cell, lengths_of, or_zero}
+use Rattle.arr_ops.specs.Ops.{array_of, inputs}
+use Rattle.arr_ops.specs.Traffic.{axis_length}
+use Rattle.arr_store.specs.Cells.{number_at}
+use Rattle.arr_strips.specs.Columns.{Row, place_at}
+
+-- of each view its number at a position
+abbrev pub row_at : (ℕ → Option Cell) → ℕ → Row
+row_at f p v = number_at (f v.base) (place_at v p)
+
+-- both inputs are views, and identical
+abbrev pub same_views : Option Strided → Option Strided → Bool
+same_views (Some v) (Some w) = identical v w
+same_views _ _ = false
+
+abbrev pub same_inputs : Op → Bool
+same_inputs op = same_views (array_of op.first) (array_of op.second)
+
+-- how many positions of its input stand behind the axis that it folds along
+abbrev pub inner_of : Op → ℕ
+inner_of op = positions (drop (suc (or_zero op.axis)) (lengths_of op.first))
+
+-- how many bytes are loaded for one result: a reduction's numbers along its axis, or one number for each distinct input
+abbrev pub loads_each : Op → ℕ
+loads_each op = cond (is_reduction op.code) (axis_length op) (length (distinct identical (inputs op))) * width op.from

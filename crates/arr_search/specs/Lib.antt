@@ -1,0 +1,5 @@
+pub mod Counts
+pub mod Steps
+pub mod Found
+pub mod Running
+pub mod Laws

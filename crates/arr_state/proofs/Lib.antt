@@ -1,0 +1,17 @@
+pub mod Basics
+pub mod Spelled
+pub mod Gives
+pub mod Touches
+pub mod Covers
+pub mod Wents
+pub mod Monotone
+pub mod Prefixes
+pub mod Words
+pub mod Keeps
+pub mod Sifts
+pub mod Frees
+pub mod Different
+pub mod Clashes
+pub mod Openings
+pub mod Sound
+pub mod Saturates

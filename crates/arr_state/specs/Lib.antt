@@ -1,0 +1,10 @@
+pub mod Known
+pub mod Rows
+pub mod Steps
+pub mod Jobs
+pub mod Kept
+pub mod Went
+pub mod States
+pub mod Opening
+pub mod Laws
+pub mod Examples
