@@ -584,6 +584,73 @@ UNKNOWN = [
     ['run', '--fuse=linear', '--budget=1'],
     ['run', '--budget=0'],
     ['check'],
-    ['check', 'x'],
+    ['check', 'x', 'y'],
+    ['Check', 'x'],
     ['demo', '1'],
+]
+
+# A script, a proof of its one flush line by line, and what is written of it.
+CHECKED = "a = full([1], 7, i64)\nb = sum(a, 0)\nc = b + 1\nprint c\n"
+PROOF = ["!flush 1 7", "!plan 1 1 2 2 1 2 2", "!cost 16", "!bound 16", "!step 7 2 3 6", "!worth 2.0,3", "!end"]
+ACCEPTED = "flush 1 cost 16 bound 16 optimal\naccepted 1\n"
+OTHER = "a = range(4)\nflush\nb = a + 1\nc = b * 2\ndel b\nprint c\n"
+
+
+def rejected(line, kind):
+    return f"rejected flush 1 line {line} {kind}\n"
+
+
+def instead(line, text):
+    return PROOF[:line - 1] + [text] + PROOF[line:]
+
+
+def doubled(line):
+    return PROOF[:line] + PROOF[line - 1:]
+
+
+def removed(line):
+    return PROOF[:line - 1] + PROOF[line:]
+
+
+# Scripts, the lines of proofs, and all that is written.
+CHECKS = [
+    (CHECKED, PROOF, ACCEPTED),
+    (CHECKED, ["here", *PROOF[:3], "", "# not a record", *PROOF[3:], "and more"], ACCEPTED),
+    ("", [], "accepted 0\n"),
+    ("", ["!end"], rejected(1, "Trailing")),
+    (OTHER, PROOF, rejected(1, "BadHead")),
+    (OTHER, ["!flush 1 1", "!plan 1", "!cost 32", "!bound 32", "!worth 1.0", "!end",
+             "!flush 2 6 2", "!plan 1 1 1 1 1 1", "!cost 32", "!bound 32", "!worth 1.1", "!end"],
+     "flush 1 cost 32 bound 32 optimal\nflush 2 cost 32 bound 32 optimal\naccepted 2\n"),
+    (CHECKED, ["!flush 1 7", "!plan 1 1 2 2 1 2 2", "!cost 16", "!bound 8", "!worth 2.0", "!end"],
+     "flush 1 cost 16 bound 8 budget\naccepted 1\n"),
+    *[(CHECKED, PROOF[:k], rejected(k + 1, "Unfinished")) for k in range(7)],
+    *[(CHECKED, doubled(k), rejected(k + 1, "Misplaced")) for k in range(1, 5)],
+    (CHECKED, doubled(5), rejected(6, "BadStep")),
+    (CHECKED, doubled(6), rejected(7, "Trailing")),
+    (CHECKED, doubled(7), "flush 1 cost 16 bound 16 optimal\nrejected flush 2 line 8 Trailing\n"),
+    *[(CHECKED, removed(k), rejected(k, "Misplaced")) for k in range(1, 5)],
+    (CHECKED, removed(5), rejected(5, "BadLeaf")),
+    (CHECKED, removed(6), rejected(6, "Unfinished")),
+    (CHECKED, instead(1, "!flush 2 7"), rejected(1, "BadHead")),
+    (CHECKED, instead(1, "!flush 1 6"), rejected(1, "BadHead")),
+    (CHECKED, instead(1, "!flush 1 7 3"), rejected(1, "Malformed")),
+    (CHECKED, instead(2, "!plan 1 1 1 1 1 1 1"), rejected(2, "NotFusible")),
+    (CHECKED, instead(2, "!plan 2 2 1 1 2 1 1"), rejected(2, "Backward")),
+    (CHECKED, instead(2, "!plan 1 1 3 3 1 3 3"), rejected(2, "BadPlan")),
+    (CHECKED, instead(3, "!cost 15"), rejected(3, "WrongCost")),
+    (CHECKED, instead(3, "!cost 016"), rejected(3, "Malformed")),
+    (CHECKED, instead(3, "!cost 16\r"), rejected(3, "Malformed")),
+    (CHECKED, instead(4, "!bound 17"), rejected(6, "WeakLeaf")),
+    (CHECKED, instead(5, "!branch 2 3"), rejected(5, "BadBranch")),
+    (CHECKED, instead(5, "!branch 3 2"), rejected(5, "BadBranch")),
+    (CHECKED, instead(5, "!dead 2 3"), rejected(5, "BadLeaf")),
+    (CHECKED, instead(5, "!step 7 2 3 8"), rejected(5, "BadStep")),
+    (CHECKED, instead(5, "!step 7 1 3 6"), rejected(5, "BadStep")),
+    (CHECKED, instead(6, "!worth 2.0,3 3.1"), rejected(6, "BadLeaf")),
+    (CHECKED, ["!flush 1 7 2", *PROOF[1:4], "!step 9 3 6", "!step 6 6 3 2", *PROOF[5:]], ACCEPTED),
+    (CHECKED, [*PROOF[:4], "!step 9 3 6", "!step 6 6 3 2", *PROOF[5:]], rejected(5, "BadStep")),
+    (CHECKED, ["!flush 1 7 2", *PROOF[1:4], "!step 9 2 6", "!step 6 6 3 2", *PROOF[5:]], rejected(5, "BadStep")),
+    (CHECKED, ["!" + "x" * 65536], rejected(1, "Malformed")),
+    ("a = $\n", PROOF, "refused 1:5 BadByte\n"),
 ]

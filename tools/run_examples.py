@@ -4,7 +4,7 @@
 examples/NAME.bh is run, and must print examples/NAME.out. The words are `run`, or those of its first line where this is a comment
 `# ./bohrium WORDS < examples/NAME.bh`.
 
-In README.md and docs/LANGUAGE.md are run:
+In README.md, docs/LANGUAGE.md and docs/CERTIFICATES.md are run:
 - a fenced block `bohrium`, a script; the next fenced block, `output`, is all that it prints. The status must be 1 where that is a
   refusal, else 0;
 - a fenced block `console`: each line that begins with `$ ` is a command for bash in the top folder, and the lines up to the next
@@ -16,12 +16,13 @@ import os
 import re
 import subprocess
 import sys
+import tempfile
 
 import cases
 
 TOP = os.path.dirname(os.path.dirname(os.path.abspath(__file__)))
 PROGRAM = os.path.join(TOP, "crates", "bohrium", "out", "bohrium")
-PAGES = ["README.md", os.path.join("docs", "LANGUAGE.md")]
+PAGES = ["README.md", os.path.join("docs", "LANGUAGE.md"), os.path.join("docs", "CERTIFICATES.md")]
 USAGE = "usage: bohrium run [--plan|--cert] [--fuse=linear|greedy|best] [--budget=N] | bohrium check FILE | bohrium demo N\n"
 # The refusals that the grammar gives.
 OF_GRAMMAR = {"TooLong", "BadByte", "NumberTooWide", "NameTooLong", "StatementTooLong", "TooDeep", "Unexpected"}
@@ -153,6 +154,19 @@ def judge_numbers():
         judge_script(f"cases: {elem} converted", script, "".join(f"{to} 1\n{z}\n" for to, z in kinds))
 
 
+def judge_checks():
+    """Proofs, whole and damaged: each is a file, with and without the last line feed; and a file that isn't there."""
+    with tempfile.TemporaryDirectory() as folder:
+        path = os.path.join(folder, "proof")
+        for script, lines, wanted in cases.CHECKS:
+            status = 1 if wanted.startswith("refused ") else 6 if "rejected " in wanted else 0
+            for text in ["\n".join(lines), "".join(line + "\n" for line in lines)]:
+                with open(path, "w", newline="") as file:
+                    file.write(text)
+                judge(f"cases: check {lines}", (status, wanted), run(script, ("check", path)))
+        judge("cases: no proof", (3, ""), run(cases.CHECKED, ("check", path + "s")))
+
+
 def judge_cases():
     for script, wanted in cases.ARRAYS + cases.REFUSALS + cases.SLICES + cases.TEXTS + cases.LIMITS:
         judge_script(f"cases: {script[:200]!r}", script, wanted)
@@ -163,6 +177,7 @@ def judge_cases():
     for text in cases.SENTENCES:
         judge_sentence(text)
     judge_numbers()
+    judge_checks()
 
 
 def main():

@@ -2,7 +2,7 @@
 
 ghost use Rattle.std.specs.Prelude.{◌<◌};
 
-use crate::runs::{run, source};
+use crate::runs::{check, run, source};
 use arr_io::{
     MemorySink, NoMemory, StdSink, StdSource, WriteFault, read_all, read_up_to, write_all,
 };
@@ -73,6 +73,56 @@ fn plans_are_listed(rt: HostRuntime) -> Result<(), Fail> {
         assert_eq!(rt; ran.status, 0);
         assert_eq!(rt; ran.written.as_slice(), text.as_slice());
     }
+    Ok(())
+}
+
+const SUMMED: &str = "a = full([1], 7, i64)\nb = sum(a, 0)\nc = b + 1\nprint c\n";
+
+const PROVED: &str =
+    "!flush 1 7\n!plan 1 1 2 2 1 2 2\n!cost 16\n!bound 16\n!step 7 2 3 6\n!worth 2.0,3\n!end\n";
+
+#[test]
+fn proofs_are_checked(rt: HostRuntime) -> Result<(), Fail> {
+    let alloc = rt.alloc();
+    let rows = [
+        ("", "", 0, "accepted 0\n"),
+        ("", "!end\n", 6, "rejected flush 1 line 1 Trailing\n"),
+        (
+            SUMMED,
+            PROVED,
+            0,
+            "flush 1 cost 16 bound 16 optimal\naccepted 1\n",
+        ),
+        (SUMMED, "", 6, "rejected flush 1 line 1 Unfinished\n"),
+        ("a = $\n", PROVED, 1, "refused 1:5 BadByte\n"),
+    ];
+    for (script, proof, status, text) in rows {
+        for piece in [1, 4096] {
+            let ran = check(alloc, script.as_bytes(), proof.as_bytes(), piece, 0)?;
+            assert_eq!(rt; ran.status, status, "{proof}");
+            assert_eq!(rt; ran.written.as_slice(), text.as_bytes(), "{proof}");
+        }
+    }
+    Ok(())
+}
+
+#[test]
+fn reading_faults_of_a_proof_end_its_check(rt: HostRuntime) -> Result<(), Fail> {
+    let alloc = rt.alloc();
+    let mut proof = Vec::from_slice(alloc, PROVED.as_bytes())?;
+    for _ in 0..2000 {
+        proof.extend_from_slice(&[b'x'; 99])?;
+        proof.push(b'\n')?;
+    }
+    let first = check(alloc, SUMMED.as_bytes(), &proof, 4096, 1)?;
+    assert_eq!(rt; first.status, 3);
+    assert!(rt; first.written.is_empty());
+    let later = check(alloc, SUMMED.as_bytes(), &proof, 4096, 40)?;
+    assert_eq!(rt; later.status, 3);
+    assert_eq!(rt;
+        later.written.as_slice(),
+        b"flush 1 cost 16 bound 16 optimal\n".as_slice()
+    );
     Ok(())
 }
 

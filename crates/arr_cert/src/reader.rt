@@ -1,6 +1,7 @@
 //! A reader of proofs: one line after another.
-ghost use Rattle.std.specs.Prelude.{◌≡◌, ◌≤◌, ◌<◌, ◌+◌, ◌-◌, ◌++◌, ◌||◌, ℕ, List, suc, true, false, length, take, vec_len, IfOk, IfSome, IsErrOf, OnOk};
+ghost use Rattle.std.specs.Prelude.{◌≡◌, ◌≤◌, ◌<◌, ◌+◌, ◌-◌, ◌++◌, ◌||◌, ℕ, List, Ok, Some, suc, true, false, length, take, vec_len, IfOk, IfSome, IsErrOf, OnOk};
 ghost use Rattle.std.specs.List.{before_first};
+ghost use Rattle.std.specs.Io.KnownBytes.{IsAtEnd};
 ghost use Rattle.arr_io.specs.Causes.{Rose};
 ghost use Rattle.arr_cert.specs.Reading.{is_feed, is_marked};
 
@@ -133,6 +134,7 @@ impl Reader {
     fn find_line<S: Source>(&mut self, source: &mut S) -> Result<Found, CheckFault>
         requires met { HasMetEnd S.Source self.old source.old }
         ensures found { IfOk result (λ found. Finds found (unread S.Source self.old source.old) (unread S.Source self.new source.new) self.new.text.items) }
+        ensures out { result ≡ Ok Found.Nothing → IsAtEnd (unread S.Source self.new source.new).bytes }
         ensures line { self.new.line ≡ self.old.line }
         ensures next { self.old.next_line ≤ self.new.next_line }
         ensures over { self.new.over ≡ self.old.over }
@@ -186,6 +188,7 @@ impl Reader {
     fn turn<S: Source>(&mut self, alloc: Global, source: &mut S) -> Result<Option<Item>, CheckFault>
         requires met { HasMetEnd S.Source self.old source.old }
         ensures item { IfOk result (λ item. Turns item (last_line self.new) (unread S.Source self.old source.old) (unread S.Source self.new source.new)) }
+        ensures out { result ≡ Ok (Some Item.End) → IsAtEnd (unread S.Source self.new source.new).bytes }
         ensures behind { IfOk result (λ found. IfSome found (λ item. IsBehind item self.new.line self.new.next_line)) }
         ensures line { self.new.line ≡ self.old.next_line }
         ensures next { self.old.next_line ≤ self.new.next_line }
@@ -218,11 +221,12 @@ impl Reader {
     /// What comes next in the proof (docs/CERTIFICATES.md, "Reading"): what the next line is that begins with `!`.
     ///
     /// `ReadFault` comes only where the source's count of faults rose in this call, and `NoMemory` where memory ran out. After either,
-    /// and after `Malformed` or `TooLong`, every later call answers `End`. Where an earlier call met the end of input, the source must
+    /// and after `Malformed` or `TooLong`, every later call answers `End`. At any other `End` nothing is left of the proof. Where an earlier call met the end of input, the source must
     /// have nothing left.
     pub fn next<S: Source>(&mut self, alloc: Global, source: &mut S) -> Result<Item, CheckFault>
         requires met { HasMetEnd S.Source self.old source.old }
         ensures item { is_over self.old ≡ false → IfOk result (Gives S.Source self.old self.new source.old source.new) }
+        ensures out { is_over self.old ≡ false → result ≡ Ok Item.End → IsAtEnd (unread S.Source self.new source.new).bytes }
         ensures behind { is_over self.old ≡ false → IfOk result (λ item. IsBehind item (last_line self.new) (next_line self.new)) }
         ensures on { is_over self.old ≡ false → IfOk result (λ item. next_line self.old ≤ last_line self.new) }
         ensures few { next_line self.new ≤ 67108865 }

@@ -1,6 +1,7 @@
 -- Records that are read one after another, and the answer to them.
 use Rattle.std.proofs.Common.{◌≡◌, ℕ, List, [], ◌∷◌, ◌++◌, true, Option, Some, None, refl, sym, ap, ◌∙◌, subst, inl, inr}
 use Rattle.std.proofs.lemmas.Bool.{false≢true}
+use Rattle.std.specs.Io.KnownBytes.{IsAtEnd, prepend_known}
 use Rattle.arr_law.specs.declared.record.Record.{Record}
 use Rattle.arr_law.specs.declared.reject.Reject.{Reject}
 use Rattle.arr_law.specs.declared.reject.Reject.TheVariants.{Malformed, TooLong, Trailing, Unfinished}
@@ -211,3 +212,20 @@ fails_if_malformed v w line found e first = fails_malformed v w line (subst (λ 
 
 pub fails_if_long : (v w : Unread) (line : ℕ) (found : Item) → found ≡ item.TooLong → Told v w (IsFirst found line) → (P : Problem) (number : ℕ) (s : State) → is_open s ≡ true → Fails P number v s line TooLong
 fails_if_long v w line found e first = fails_too_long v w line (subst (λ (f : Item). Told v w (IsFirst f line)) e first)
+
+-- ---- the end of the input
+
+nothing_more : (w xs : List ℕ) → w ++ xs ≡ [] → xs ≡ []
+nothing_more [] xs e = e
+nothing_more (x ∷ w) xs e = absurd (cc)
+
+source_ends : (w : List ℕ) (left : Option (List ℕ)) → IsAtEnd (prepend_known w left) → IsAtEnd left
+source_ends w None e = tt
+source_ends w (Some xs) e = nothing_more w xs e
+
+-- an item that has no fault ends the input
+pub ends_input : (found : Item) (w : List ℕ) (left : Option (List ℕ)) → None ≡ left_kind found → (found ≡ item.End → IsAtEnd (prepend_known w left)) → IsAtEnd left
+ends_input (item.Record r) w left e h = absurd (cc)
+ends_input item.End w left e h = source_ends w left (h refl)
+ends_input item.Malformed w left e h = absurd (cc)
+ends_input item.TooLong w left e h = absurd (cc)

@@ -1,5 +1,6 @@
 //! The checker of certificates.
-ghost use Rattle.std.specs.Prelude.{◌≡◌, ◌≤◌, ◌<◌, IfErr, IfOk, IfSome, IsErrOf, IsTrue, MatchOption, Ok, false, length, true};
+ghost use Rattle.std.specs.Prelude.{◌≡◌, ◌≤◌, ◌<◌, IfErr, IfOk, IfSome, IsErrOf, IsTrue, MatchOption, None, Ok, false, length, true};
+ghost use Rattle.std.specs.Io.KnownBytes.{IsAtEnd};
 ghost use Rattle.arr_io.specs.Causes.{Rose};
 ghost use Rattle.arr_ops.specs.Formed.{is_formed};
 ghost use Rattle.arr_law.specs.ProblemOf.{problem_of};
@@ -163,6 +164,7 @@ pub fn finish<S: Source>(
     requires open { is_over reader.old ≡ false }
     requires met { HasMetEnd S.Source reader.old source.old }
     ensures left { IfOk result (Left (unread S.Source reader.old source.old)) }
+    ensures ended { result ≡ Ok None → IsAtEnd (S.left source.new) }
     ensures met { HasMetEnd S.Source reader.new source.new }
     ensures later { S.faults source.old ≤ S.faults source.new }
     ensures cause { IsErrOf result CheckFault.ReadFault → Rose (S.faults source.old) (S.faults source.new) }

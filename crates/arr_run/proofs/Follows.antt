@@ -1,5 +1,5 @@
 -- What a caller may take from the relation.
-use Rattle.std.proofs.Common.{◌≡◌, ℕ, List, [], ◌∷◌, ◌++◌, Option, Some, length, take, drop, refl, ap, ◌∙◌, subst, arith}
+use Rattle.std.proofs.Common.{◌≡◌, ◌⊎◌, inl, inr, ⊎_elim, ℕ, List, [], ◌∷◌, ◌++◌, Option, Some, length, take, drop, refl, ap, ◌∙◌, subst, arith}
 use Rattle.std.specs.List.{flat_map}
 use Rattle.std.specs.Io.KnownBytes.{Appends}
 use Rattle.arr_record.specs.declared.part.Part.{Part}
@@ -11,7 +11,7 @@ use Rattle.arr_store.specs.Stored.{Stored}
 use Rattle.arr_run.specs.declared.choice.Choice.{Choice}
 use Rattle.arr_run.specs.declared.choice.Listing.TheVariants.{Quiet}
 use Rattle.arr_run.specs.declared.words.Command.TheVariants.{Run}
-use Rattle.arr_run.specs.Answers.{Answer, Ends, Given, Leaves, answer_status, answer_text, done, refused}
+use Rattle.arr_run.specs.Answers.{Answer, Ends, Given, Leaves, answer_status, answer_text, done, is_final, refused}
 use Rattle.arr_run.specs.Laws.{FaultsAreCounted, PrintsEagerly, PrintsRun, RefusalKeepsStore, RunIsKnown}
 use Rattle.arr_run.specs.Pieces.{Pieces, PlannedPart, Segment, head_of, number_behind, plan_lines, segment_text, segments_from, slots_in}
 
@@ -38,7 +38,7 @@ printed_by choice given old new (refused why) e ends w = absurd (omega arith)
 -- status 0: the text of a whole run was written, and nothing else
 pub prints_eagerly : PrintsEagerly
 prints_eagerly choice script proof old new store after s =
-    let d = s.2.whole (omega arith) in
+    let d = s.2.whole refl in
     subst (λ t. PrintsRun choice t old new) s.1.0 (printed_by choice s.0 old new d.answer d.status_is d.ends d.wrote)
 
 kept_by : (choice : Choice) (given : Given) (store after : Stored) (n : ℕ) (a : Answer given (Some (Run choice))) → answer_status a ≡ 1 → Leaves a n store after → after ≡ store
@@ -47,17 +47,20 @@ kept_by choice given store after n (refused why) e l = l
 
 -- status 1: the store is as it was
 pub refusal_keeps : RefusalKeepsStore
-refusal_keeps choice script proof old new store after s = let d = s.2.whole (omega arith) in kept_by choice s.0 store after (length (answer_text d.answer)) d.answer d.status_is d.leaves
+refusal_keeps choice script proof old new store after s = let d = s.2.whole refl in kept_by choice s.0 store after (length (answer_text d.answer)) d.answer d.status_is d.leaves
 
-never_two : (choice : Choice) (given : Given) (a : Answer given (Some (Run choice))) → answer_status a ≡ 2 → ⊥
-never_two choice given (done r) e = absurd (omega arith)
-never_two choice given (refused why) e = absurd (omega arith)
+never_two : (choice : Choice) (given : Given) (a : Answer given (Some (Run choice))) → (answer_status a ≡ 2) ⊎ (answer_status a ≡ 6) → ⊥
+never_two choice given (done r) e = ⊎_elim (λ h. omega arith) (λ h. omega arith) e
+never_two choice given (refused why) e = ⊎_elim (λ h. omega arith) (λ h. omega arith) e
 
--- the words of `run` never answer 2
+-- the words of `run` never answer 2 or 6
 pub never_usage : RunIsKnown
-never_usage choice script proof old new store after s = let d = s.2.whole (omega arith) in never_two choice s.0 d.answer d.status_is
+never_usage choice script proof old new status store after s = (
+  λ two. let d = s.2.whole (ap is_final two) in never_two choice s.0 d.answer (inl (d.status_is ∙ two)),
+  λ six. let d = s.2.whole (ap is_final six) in never_two choice s.0 d.answer (inr (d.status_is ∙ six)),
+)
 
 -- a count that stands still has not risen
 pub faults_counted : FaultsAreCounted
-faults_counted status reads writes few_reads few_writes b =
-    (λ e. let rose = b.read_fault e in omega arith, λ e. let rose = b.write_fault e in omega arith)
+faults_counted status reads proofs writes few_reads few_proofs few_writes b =
+    (λ e. ⊎_elim (λ rose. omega arith) (λ rose. omega arith) (b.read_fault e), λ e. let rose = b.write_fault e in omega arith)

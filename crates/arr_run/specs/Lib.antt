@@ -1,8 +1,10 @@
 pub mod Words
 pub mod Texts
 pub mod Pieces
+pub mod Checked
 pub mod Answers
 pub mod Shown
 pub mod Parts
+pub mod Checking
 pub mod Flushes
 pub mod Laws

@@ -1,13 +1,20 @@
 //! What follows from the contract of [`serve`](crate::serve). Each function does nothing: its contract is the law.
-ghost use Rattle.arr_run.specs.Laws.{FaultsAreCounted, PrintsEagerly, RanInArrays, RanInHead, RanWhole, RefusalKeepsStore, RunIsKnown};
+ghost use Rattle.arr_run.specs.Laws.{ChecksCertify, FaultsAreCounted, PrintsEagerly, RanInArrays, RanInHead, RanWhole, RefusalKeepsStore, RunIsKnown};
 
 /// What the statuses of `run` say, taken from the relation `Serves` alone (docs/LANGUAGE.md, "The program"): at 0 the script is
 /// accepted, and the text of a whole run of it was written: plan lines, where they are listed, and its eager arrays, and where no plans are
-/// listed these arrays alone; at 1 the store is as it was; 2 never comes.
+/// listed these arrays alone; at 1 the store is as it was; 2 and 6 never come.
 pub fn statuses_say()
     ensures done { PrintsEagerly }
     ensures refused { RefusalKeepsStore }
     ensures known { RunIsKnown }
+{}
+
+/// What status 0 and 6 of `check` say, taken from the relation `Serves` alone: the script is accepted, the lines of the verdict on the proof
+/// were written, and for each flush that they name there is a legal plan of its list that costs what is said, and no legal plan costs less
+/// than the bound (docs/CERTIFICATES.md, "What a yes means").
+pub fn checks_certify()
+    ensures { ChecksCertify }
 {}
 
 /// Over sources and a sink whose counts of faults don't change, as those that never fail, `serve` answers neither 3 nor 4.

@@ -13,6 +13,7 @@
 //! stands in `laws.rt`.
 #![tactic(auto)]
 
+mod checking;
 mod choice;
 mod flush;
 mod laws;
@@ -24,6 +25,6 @@ mod words;
 
 pub use choice::{Choice, Fuse, Listing};
 pub use flush::{Report, RunFault, flush_once};
-pub use laws::{faults_are_counted, parts_are_counted, statuses_say};
+pub use laws::{checks_certify, faults_are_counted, parts_are_counted, statuses_say};
 pub use program::serve;
 pub use words::Command;

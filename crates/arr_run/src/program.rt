@@ -1,23 +1,26 @@
 //! What the program does.
-ghost use Rattle.std.specs.Prelude.{◌≡◌, ◌⊎◌, ◌≤◌, ◌<◌, ◌*◌, ◌^◌, List, ℕ, map, length, true, None, Some, IsSome};
+ghost use Rattle.std.specs.Prelude.{◌≡◌, ◌⊎◌, ◌≤◌, ◌<◌, ◌*◌, ◌^◌, List, ℕ, map, length, true, None, Some, IsSome, IfOk};
 ghost use Rattle.std.specs.List.{list_all};
 ghost use Rattle.std.specs.String.{string_bytes};
 ghost use Rattle.arr_io.specs.Causes.{Rose};
 ghost use Rattle.arr_elab.specs.declared.step.Step.{Step};
 ghost use Rattle.arr_record.specs.Runs.{after_parts, each_fits, is_part};
-ghost use Rattle.arr_store.specs.Stored.{cells, memory_of};
-ghost use Rattle.arr_run.specs.Answers.{Accepts, Blames, IsReadOut, Serves};
+ghost use Rattle.std.specs.Io.KnownBytes.{IsAtEnd};
+ghost use Rattle.arr_store.specs.Stored.{Stored, cells, memory_of};
+ghost use Rattle.arr_run.specs.Answers.{Accepts, Blames, Finishes, HasRead, IsReadOut, Serves, is_final};
+ghost use Rattle.arr_run.specs.Checking.{Judges};
 ghost use Rattle.arr_run.specs.Parts.{CountsBelow, Ended, RisesBy, StoppedIn, parts_text};
 ghost use Rattle.arr_run.specs.Texts.{refusal_text};
 ghost use Rattle.arr_run.specs.Words.{command_of};
 
+use crate::checking::{Stop, check_parts};
 use crate::choice::Choice;
 use crate::flush::RunFault;
 use crate::parts::run_parts;
 use crate::script::{MOST_BYTES, ScriptFault, parts_of_text};
-use crate::texts::{USAGE, refusal_text};
+use crate::texts::{USAGE, accepted_line, refusal_text, rejected_line};
 use crate::words::{Command, named_command};
-use arr_io::{ReadFailure, Sink, Source, WriteFault, read_up_to, write_all};
+use arr_io::{NoMemory, ReadFailure, Sink, Source, WriteFault, read_up_to, write_all};
 use arr_record::Part;
 use arr_store::Store;
 use arr_syntax::Refusal;
@@ -36,19 +39,24 @@ const WRITE_FAULT: u8 = 4;
 
 const OUT_OF_MEMORY: u8 = 5;
 
+const REJECTED: u8 = 6;
+
 /// Does what the words ask for, and answers the status (docs/LANGUAGE.md, "The program").
 ///
 /// The words are those of the command line without the program's name. `run` runs the script that `script` gives, on `store`, with the planner
-/// and the listing that the words behind it choose; the proof isn't read. The store has no base at first. The statuses are:
+/// and the listing that the words behind it choose; the proof isn't read. `check FILE` checks the certificates that `proof` gives against the
+/// flushes of the script; the store isn't used. The store has no base at first. The statuses are:
 ///
 /// - 0: all was done, and the script was read to its end; plans, where they are listed, and the arrays printed were written, and the store
 ///   has no base.
 /// - 1: the script is refused; the line of the refusal was written, and the store is as it was.
 /// - 2: the words name no command; the usage line was written, and the store is as it was.
-/// - 3: a read of the script failed; nothing was written, and the store is as it was.
+/// - 3: a read of the script or of the proof failed; nothing was written, or with `check` the lines of some first flushes; the store is as it
+///   was.
 /// - 4: a write failed; a front of the text was written. With an accepted script the store is what its parts leave up to the list in whose
 ///   arrays the first missing byte stands, or up to the one before the list in whose plan lines it stands; else it is as it was.
 /// - 5: no memory is left; a front of the text was written. With words that name no command it never comes.
+/// - 6: the proof is rejected; the lines of the flushes before and the line of the rejection were written, and the store is as it was.
 pub fn serve<S: Source, C: Source, K: Sink>(
     alloc: Global,
     words: &[String],
@@ -66,19 +74,21 @@ pub fn serve<S: Source, C: Source, K: Sink>(
         result (K.written sink.old) (K.written sink.new) store.old store.new }
     ensures emptied { result ≡ 0 → (b : ℕ) → cells store.new b ≡ None }
     // Every fault has its cause.
-    ensures blames { Blames result (S.faults script.old) (S.faults script.new)
+    ensures blames { Blames result (S.faults script.old) (S.faults script.new) (C.faults proof.old) (C.faults proof.new)
         (K.faults sink.old) (K.faults sink.new) }
-    // An accepted script runs, unless a fault or want of memory came.
+    // An accepted script is run or checked, unless a fault or want of memory came.
     ensures complete { (steps : List Step) → IsSome (command_of (map string_bytes words.now)) → Accepts (S.left script.old) steps
-        → (Rose (S.faults script.old) (S.faults script.new) → ⊥) → (Rose (K.faults sink.old) (K.faults sink.new) → ⊥)
-        → (result ≡ 0) ⊎ (result ≡ 5) }
+        → (Rose (S.faults script.old) (S.faults script.new) → ⊥) → (Rose (C.faults proof.old) (C.faults proof.new) → ⊥)
+        → (Rose (K.faults sink.old) (K.faults sink.new) → ⊥) → Finishes (command_of (map string_bytes words.now)) result }
     // What was read.
-    ensures read_out { result < 2 → IsReadOut (S.left script.old) (S.left script.new) }
+    ensures read_out { HasRead result → IsReadOut (S.left script.old) (S.left script.new) }
+    ensures proof_out { result ≡ 0 → command_of (map string_bytes words.now) ≡ Some Command.Check → IsAtEnd (C.left proof.new) }
     ensures script { command_of (map string_bytes words.now) ≡ None → script.new ≡ script.old }
-    ensures proof { proof.new ≡ proof.old }
+    ensures proof { (command_of (map string_bytes words.now) ≡ Some Command.Check → ⊥) → proof.new ≡ proof.old }
 {
     match named_command(words) {
         Some(Command::Run(choice)) => run(alloc, choice, store, script, sink),
+        Some(Command::Check) => check_script(alloc, script, proof, sink),
         None => match write_all(sink, USAGE.as_bytes()) {
             Ok(()) => WRONG_WORDS,
             Err(WriteFault) => WRITE_FAULT,
@@ -101,12 +111,12 @@ fn run<S: Source, K: Sink>(
     ensures served { Serves (Some (Command.Run choice)) (S.left script.old) None
         result (K.written sink.old) (K.written sink.new) store.old store.new }
     ensures emptied { result ≡ 0 → (b : ℕ) → cells store.new b ≡ None }
-    ensures blames { Blames result (S.faults script.old) (S.faults script.new)
+    ensures blames { (proofs : ℕ) → Blames result (S.faults script.old) (S.faults script.new) proofs proofs
         (K.faults sink.old) (K.faults sink.new) }
     ensures complete { (steps : List Step) → Accepts (S.left script.old) steps
         → (Rose (S.faults script.old) (S.faults script.new) → ⊥) → (Rose (K.faults sink.old) (K.faults sink.new) → ⊥)
         → (result ≡ 0) ⊎ (result ≡ 5) }
-    ensures read_out { result < 2 → IsReadOut (S.left script.old) (S.left script.new) }
+    ensures read_out { HasRead result → IsReadOut (S.left script.old) (S.left script.new) }
 {
     let bytes = match read_up_to(alloc, script, MOST_BYTES as u64 + 1) {
         Ok(bytes) => bytes,
@@ -148,17 +158,76 @@ fn run_all<K: Sink>(
     }
 }
 
+/// Checks the proof against the script: `serve` with the words of `check`.
+fn check_script<S: Source, C: Source, K: Sink>(
+    alloc: Global,
+    script: &mut S,
+    proof: &mut C,
+    sink: &mut K,
+) -> u8
+    ensures served { (store : Stored) → Serves (Some Command.Check) (S.left script.old) (C.left proof.old)
+        result (K.written sink.old) (K.written sink.new) store store }
+    ensures blames { Blames result (S.faults script.old) (S.faults script.new) (C.faults proof.old) (C.faults proof.new)
+        (K.faults sink.old) (K.faults sink.new) }
+    ensures complete { (steps : List Step) → Accepts (S.left script.old) steps
+        → (Rose (S.faults script.old) (S.faults script.new) → ⊥) → (Rose (C.faults proof.old) (C.faults proof.new) → ⊥)
+        → (Rose (K.faults sink.old) (K.faults sink.new) → ⊥) → (result ≡ 0) ⊎ (result ≡ 5) ⊎ (result ≡ 6) }
+    ensures read_out { HasRead result → IsReadOut (S.left script.old) (S.left script.new) }
+    ensures proof_out { result ≡ 0 → IsAtEnd (C.left proof.new) }
+{
+    let bytes = match read_up_to(alloc, script, MOST_BYTES as u64 + 1) {
+        Ok(bytes) => bytes,
+        Err(ReadFailure::NoMemory) => return OUT_OF_MEMORY,
+        Err(ReadFailure::ReadFault) => return READ_FAULT,
+        Err(ReadFailure::TooLong) => unreachable!(),
+    };
+    match parts_of_text(alloc, &bytes) {
+        Ok(parts) => judge(alloc, &parts, proof, sink),
+        Err(ScriptFault::Refused(refusal)) => refuse(alloc, refusal, sink),
+        Err(ScriptFault::NoMemory) => OUT_OF_MEMORY,
+    }
+}
+
+/// Checks the proof against the parts of an accepted script.
+fn judge<C: Source, K: Sink>(alloc: Global, parts: &[Part], proof: &mut C, sink: &mut K) -> u8
+    requires each { list_all is_part parts.now ≡ true }
+    requires few { length parts.now ≤ 4_194_304 }
+    ensures judges { Judges parts.now (C.left proof.old) result (K.written sink.old) (K.written sink.new) }
+    ensures ended { result ≡ 0 → IsAtEnd (C.left proof.new) }
+    ensures blames { (reads : ℕ) → Blames result reads reads (C.faults proof.old) (C.faults proof.new) (K.faults sink.old) (K.faults sink.new) }
+{
+    match check_parts(alloc, parts, proof, sink) {
+        Ok(count) => end_with(accepted_line(alloc, count), DONE, sink),
+        Err(Stop::Rejected { flush, line, kind }) => {
+            end_with(rejected_line(alloc, flush, line, kind), REJECTED, sink)
+        }
+        Err(Stop::ReadFault) => READ_FAULT,
+        Err(Stop::WriteFault) => WRITE_FAULT,
+        Err(Stop::NoMemory) => OUT_OF_MEMORY,
+    }
+}
+
 /// Writes the line of a refusal.
 fn refuse<K: Sink>(alloc: Global, refusal: Refusal, sink: &mut K) -> u8
     ensures ended { Ended 1 result (K.written sink.old) (K.written sink.new) (refusal_text refusal) }
     ensures later { K.faults sink.old ≤ K.faults sink.new }
     ensures cause { result ≡ 4 → Rose (K.faults sink.old) (K.faults sink.new) }
 {
-    let Ok(text) = refusal_text(alloc, refusal) else {
+    end_with(refusal_text(alloc, refusal), REFUSED, sink)
+}
+
+/// Writes the last line, and answers the status that stands for it.
+fn end_with<K: Sink>(line: Result<Vec<u8>, NoMemory>, status: u8, sink: &mut K) -> u8
+    requires whole { is_final status ≡ true }
+    ensures ended { (text : List ℕ) → IfOk line (λ found. found.items ≡ text) → Ended status result (K.written sink.old) (K.written sink.new) text }
+    ensures later { K.faults sink.old ≤ K.faults sink.new }
+    ensures cause { result ≡ 4 → Rose (K.faults sink.old) (K.faults sink.new) }
+{
+    let Ok(text) = line else {
         return OUT_OF_MEMORY;
     };
     match write_all(sink, &text) {
-        Ok(()) => REFUSED,
+        Ok(()) => status,
         Err(WriteFault) => WRITE_FAULT,
     }
 }
