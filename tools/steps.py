@@ -52,7 +52,7 @@ def in_order(base, shape):
     return new_view(base, 0, shape, [count(shape[k + 1:]) for k in range(len(shape))])
 
 
-@functools.lru_cache(maxsize=1024)
+@functools.lru_cache(maxsize=64)
 def elements(view):
     places = [view.start]
     for length, stride in zip(view.shape, view.strides):
