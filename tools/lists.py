@@ -192,6 +192,21 @@ def rewritten(ops):
         ops = after
 
 
+# ---- the listing
+
+
+def view_text(view, elem):
+    return f"b{view.base}:{elem}@{view.start}[" + ",".join(f"{n}:{s}" for n, s in zip(view.shape, view.strides)) + "]"
+
+
+def line_of(op):
+    """The operation as the lines of a plan have it, behind its number."""
+    parts = [op.code] + ([("+" if op.makes else "") + view_text(op.out, op.to)] if op.out else [])
+    parts += [view_text(x, op.source) if isinstance(x, View) else str(x) for x in op.operands]
+    parts += [f"{word}{number}" for word, number in [("axis=", op.axis), ("slot=", op.slot), ("b", op.frees)] if number is not None]
+    return " ".join(parts)
+
+
 # ---- dependence, blocks and cost
 
 

@@ -112,6 +112,9 @@ class Steps:
 
     def __init__(self, trees):
         self.steps, self.bases, self.names = [], [], {}
+        self.extend(trees)
+
+    def extend(self, trees):
         for tree in trees:
             self.live = sum(self.bases[base][1] for base in {value.view.base for value in self.names.values()})
             getattr(self, "do_" + tree[0])(*tree[1:])
