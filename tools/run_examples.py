@@ -10,7 +10,9 @@ In README.md, docs/LANGUAGE.md and docs/CERTIFICATES.md are run:
 - a fenced block `console`: each line that begins with `$ ` is a command for bash in the top folder, and the lines up to the next
   command are all that it writes to its standard output;
 - each row of a table whose last two columns are headed `script` and `prints`: each code span is one line of the script, or of what it
-  prints.
+  prints;
+- each row of a table whose last three columns are headed `command`, `status` and `writes`: the command is one for bash in the top
+  folder, and must end with that status; each further code span is one line that it writes to its standard output.
 """
 import os
 import re
@@ -77,23 +79,29 @@ def cells(line):
 
 
 def judge_tables(page, lines):
-    inside = False
+    heads = []
     for number, line in enumerate(lines, 1):
+        row, where = cells(line), f"{page}:{number}"
         if not line.startswith("|"):
-            inside = False
-            continue
-        row = cells(line)
-        if row[-2:] == ["script", "prints"]:
-            inside = True
-        elif inside and spans(row[-2]):
-            judge_script(f"{page}:{number}", spans(row[-2]), spans(row[-1]))
+            heads = []
+        elif not heads:
+            heads = row
+        elif heads[-2:] == ["script", "prints"] and spans(row[-2]):
+            judge_script(where, spans(row[-2]), spans(row[-1]))
+        elif heads[-3:] == ["command", "status", "writes"] and spans(row[-3]):
+            judge(f"{where}: {row[-3]}", (int(row[-2]), spans(row[-1])), by_bash(spans(row[-3])))
+
+
+def by_bash(command):
+    """The status of a command in the top folder, and what it writes to its standard output."""
+    done = subprocess.run(["bash", "-c", command], cwd=TOP, stdin=subprocess.DEVNULL, capture_output=True, timeout=600)
+    return done.returncode, done.stdout.decode(errors="replace")
 
 
 def judge_commands(where, text):
     for part in re.split(r"^\$ ", text, flags=re.M)[1:]:
         command, _, wanted = part.partition("\n")
-        done = subprocess.run(["bash", "-c", command], cwd=TOP, stdin=subprocess.DEVNULL, capture_output=True, timeout=600)
-        judge(f"{where}: {command}", wanted, done.stdout.decode(errors="replace"))
+        judge(f"{where}: {command}", wanted, by_bash(command)[1])
 
 
 def judge_page(page):
