@@ -10,8 +10,16 @@
 #![tactic(auto)]
 
 mod best;
+mod choice;
+mod decided;
+mod explore;
 mod found;
 mod laws;
+mod node;
+mod ops;
+mod parts;
+mod places;
+mod progress;
 
 pub use best::search;
 pub use found::Found;

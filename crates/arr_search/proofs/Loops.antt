@@ -1,0 +1,43 @@
+-- What a loop over the numbers from 1 on knows.
+use Rattle.std.proofs.Common.{◌≡◌, ℕ, zero, suc, ◌+◌, ◌<◌, ◌≤◌, List, [], ◌∷◌, ◌++◌, Bool, true, false, cond, ◌&&◌, refl, sym, ap, ap₂, ◌∙◌, subst, arith}
+use Rattle.std.specs.List.{list_all, filter, range_with_len}
+use Rattle.std.proofs.lemmas.Bool.{and_parts}
+use Rattle.std.proofs.lemmas.List.Folds.{list_all-append}
+use Rattle.arr_heur.proofs.Stretches.{range_more}
+
+and_false : (b : Bool) → (b && false) ≡ false
+and_false true = refl
+and_false false = refl
+
+pub numbers_more : (G : ℕ → Bool) (k : ℕ) → list_all G (range_with_len 1 k) ≡ true → G (k + 1) ≡ true → list_all G (range_with_len 1 (k + 1)) ≡ true
+numbers_more G k all here =
+    ap (list_all G) (range_more 1 k) ∙ (list_all-append G (range_with_len 1 k) ((1 + k) ∷ []) ∙ ap₂ (λ a b. a && (b && true)) all (ap G (let e : 1 + k ≡ k + 1 = omega arith in e) ∙ here))
+
+fails_from : (G : ℕ → Bool) (a n k : ℕ) → a ≤ k → k < a + n → G k ≡ false → list_all G (range_with_len a n) ≡ false
+fails_from G a zero k l m e = absurd (omega arith)
+fails_from G a (suc n) k l m e = go (G a) refl (λ later. fails_from G (a + 1) n k later (omega arith) e)
+  where
+    go : (b : Bool) → G a ≡ b → (a + 1 ≤ k → list_all G (range_with_len (a + 1) n) ≡ false) → (G a && list_all G (range_with_len (a + 1) n)) ≡ false
+    go false here ih = ap (λ b. b && list_all G (range_with_len (a + 1) n)) here
+    go true here ih = ap (λ b. G a && b) (ih (above here)) ∙ and_false (G a)
+      where
+        above : G a ≡ true → a + 1 ≤ k
+        above t = later_than (λ same. let f : true ≡ false = sym t ∙ (ap G same ∙ e) in cc) l
+          where
+            later_than : (a ≡ k → ⊥) → a ≤ k → a + 1 ≤ k
+            later_than ne le = omega arith
+
+pub numbers_fail : (G : ℕ → Bool) (n k : ℕ) → k < n → G (k + 1) ≡ false → list_all G (range_with_len 1 n) ≡ false
+numbers_fail G n k l e = fails_from G 1 n (k + 1) (omega arith) (omega arith) e
+
+-- one more number that may pass a filter
+pub filter_more : (p : ℕ → Bool) (a k : ℕ) → filter p (range_with_len a (k + 1)) ≡ filter p (range_with_len a k) ++ cond (p (a + k)) ((a + k) ∷ []) []
+filter_more p a k = ap (filter p) (range_more a k) ∙ filter_join p (range_with_len a k) (a + k)
+  where
+    filter_join : (p : ℕ → Bool) (xs : List ℕ) (x : ℕ) → filter p (xs ++ x ∷ []) ≡ filter p xs ++ cond (p x) (x ∷ []) []
+    filter_join p [] x = refl
+    filter_join p (y ∷ ys) x = go (p y) (filter_join p ys x)
+      where
+        go : (b : Bool) → filter p (ys ++ x ∷ []) ≡ filter p ys ++ cond (p x) (x ∷ []) [] → cond b (y ∷ filter p (ys ++ x ∷ [])) (filter p (ys ++ x ∷ [])) ≡ cond b (y ∷ filter p ys) (filter p ys) ++ cond (p x) (x ∷ []) []
+        go true ih = ap (λ zs. y ∷ zs) ih
+        go false ih = ih

@@ -1,0 +1,18 @@
+//! The operations of a graph.
+ghost use Rattle.std.specs.Prelude.{◌≡◌, IfOk};
+
+use crate::NoMemory;
+use arr_deps::Graph;
+use arr_ops::Op;
+use std::alloc::Global;
+
+/// A copy of the operations of a graph.
+pub(crate) fn ops_of(alloc: Global, graph: &Graph) -> Result<Vec<Op>, NoMemory>
+    ensures { IfOk result (λ ops. ops.items ≡ graph.now) }
+{
+    let mut ops = Vec::new(alloc);
+    for f in 0..graph.len() {
+        ops.push(graph.op(f + 1).copied())?;
+    }
+    Ok(ops)
+}
