@@ -1,8 +1,10 @@
 -- What a loop over the numbers from 1 on knows.
-use Rattle.std.proofs.Common.{◌≡◌, ℕ, zero, suc, ◌+◌, ◌<◌, ◌≤◌, List, [], ◌∷◌, ◌++◌, Bool, true, false, cond, ◌&&◌, refl, sym, ap, ap₂, ◌∙◌, subst, arith}
-use Rattle.std.specs.List.{list_all, filter, range_with_len}
+use Rattle.std.proofs.Common.{◌≡◌, ℕ, zero, suc, ◌+◌, ◌<◌, ◌≤◌, List, [], ◌∷◌, ◌++◌, length, get_or, map, Bool, true, false, cond, ◌&&◌, refl, sym, ap, ap₂, ◌∙◌, subst, arith}
+use Rattle.std.specs.List.{list_all, filter, position_or_len, range_with_len}
 use Rattle.std.proofs.lemmas.Bool.{and_parts}
 use Rattle.std.proofs.lemmas.List.Folds.{list_all-append}
+use Rattle.arr_view.specs.Views.{has}
+use Rattle.arr_ops.specs.Plans.{place}
 use Rattle.arr_heur.proofs.Stretches.{range_more}
 
 and_false : (b : Bool) → (b && false) ≡ false
@@ -41,3 +43,38 @@ filter_more p a k = ap (filter p) (range_more a k) ∙ filter_join p (range_with
         go : (b : Bool) → filter p (ys ++ x ∷ []) ≡ filter p ys ++ cond (p x) (x ∷ []) [] → cond b (y ∷ filter p (ys ++ x ∷ [])) (filter p (ys ++ x ∷ [])) ≡ cond b (y ∷ filter p ys) (filter p ys) ++ cond (p x) (x ∷ []) []
         go true ih = ap (λ zs. y ∷ zs) ih
         go false ih = ih
+
+-- ---- positions in a range
+
+-- what none before passes and it passes stands at its position
+pub position_at : (p : ℕ → Bool) (a n k : ℕ) → k < n → ((j : ℕ) → j < k → p (a + j) ≡ false) → p (a + k) ≡ true → position_or_len p (range_with_len a n) ≡ k
+position_at p a zero k l h e = absurd (omega arith)
+position_at p a (suc n) zero l h e = ap (λ b. cond b 0 (suc (position_or_len p (range_with_len (a + 1) n)))) (ap p (let z : a ≡ a + 0 = omega arith in z) ∙ e)
+position_at p a (suc n) (suc k) l h e =
+    ap (λ b. cond b 0 (suc (position_or_len p (range_with_len (a + 1) n)))) (ap p (let z : a ≡ a + 0 = omega arith in z) ∙ h 0 (omega arith))
+    ∙ ap suc (position_at p (a + 1) n k (omega arith) (λ j m. ap p (let z : a + 1 + j ≡ a + suc j = omega arith in z) ∙ h (suc j) (omega arith)) (ap p (let z : a + 1 + k ≡ a + suc k = omega arith in z) ∙ e))
+
+pub position_none : (p : ℕ → Bool) (a n : ℕ) → ((j : ℕ) → j < n → p (a + j) ≡ false) → position_or_len p (range_with_len a n) ≡ n
+position_none p a zero h = refl
+position_none p a (suc n) h =
+    ap (λ b. cond b 0 (suc (position_or_len p (range_with_len (a + 1) n)))) (ap p (let z : a ≡ a + 0 = omega arith in z) ∙ h 0 (omega arith))
+    ∙ ap suc (position_none p (a + 1) n (λ j m. ap p (let z : a + 1 + j ≡ a + suc j = omega arith in z) ∙ h (suc j) (omega arith)))
+
+-- one more number of a mapped range
+pub map_more : {X : Type 0} (h : ℕ → X) (a k : ℕ) → map h (range_with_len a (k + 1)) ≡ map h (range_with_len a k) ++ h (a + k) ∷ []
+map_more h a k = ap (map h) (range_more a k) ∙ join (range_with_len a k) (a + k)
+  where
+    join : (xs : List ℕ) (x : ℕ) → map h (xs ++ x ∷ []) ≡ map h xs ++ h x ∷ []
+    join [] x = refl
+    join (y ∷ ys) x = ap (λ zs. h y ∷ zs) (join ys x)
+
+-- ---- places in a plan
+
+pub place_here : (plan : List (List ℕ)) (f k : ℕ) → k < length plan → ((j : ℕ) → j < k → has (get_or plan j []) f ≡ false) → has (get_or plan k []) f ≡ true → place plan f ≡ k
+place_here [] f k l h e = absurd (omega arith)
+place_here (b ∷ plan) f zero l h e = ap (λ t. cond t 0 (suc (place plan f))) e
+place_here (b ∷ plan) f (suc k) l h e = ap (λ t. cond t 0 (suc (place plan f))) (h 0 (omega arith)) ∙ ap suc (place_here plan f k (omega arith) (λ j m. h (suc j) (omega arith)) e)
+
+pub place_none : (plan : List (List ℕ)) (f : ℕ) → ((j : ℕ) → j < length plan → has (get_or plan j []) f ≡ false) → place plan f ≡ length plan
+place_none [] f h = refl
+place_none (b ∷ plan) f h = ap (λ t. cond t 0 (suc (place plan f))) (h 0 (omega arith)) ∙ ap suc (place_none plan f (λ j m. h (suc j) (omega arith)))

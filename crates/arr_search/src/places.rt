@@ -12,12 +12,7 @@ use std::alloc::Global;
 fn has(block: &[u32], f: u32) -> bool
     ensures { result ≡ has block.now f }
 {
-    for g in block {
-        if f == *g {
-            return true;
-        }
-    }
-    false
+    block.iter().any(|other| f == *other)
 }
 
 /// The place of the block of an operation, counted from 0.
