@@ -150,7 +150,7 @@ module _ (list : List Op) (plan : List (List ℕ)) (formed : IsTrue (is_formed l
       by_bool (place_in places f == place_in places g)
       (λ e. or_right (not (place_in places f == place_in places g)) (P.fusible f g) ((agrees list plan formed legal).legal.together f g pair (let s : place_in places f ≡ place_in places g = eqb-true _ _ e in omega (arith, s, place_of f o.0, place_of g o.1))))
       (λ e. or_left (not (place_in places f == place_in places g)) (P.fusible f g) (ap not e))))
-      (λ no. or_left (not (is_pair P f g)) _ (ap not no))))
+      (λ nay. or_left (not (is_pair P f g)) _ (ap not nay))))
 
   forward : is_forward P places ≡ true
   forward =
@@ -160,7 +160,7 @@ module _ (list : List Op) (plan : List (List ℕ)) (formed : IsTrue (is_formed l
       by_bool (P.dep f g)
       (λ e. or_right (not (P.dep f g)) (nat_le (place_in places f) (place_in places g)) (le-leb _ _ (let s : place plan f ≤ place plan g = (agrees list plan formed legal).legal.forward f g pair e in omega (arith, s, place_of f o.0, place_of g o.1))))
       (λ e. or_left (not (P.dep f g)) (nat_le (place_in places f) (place_in places g)) (ap not e))))
-      (λ no. or_left (not (is_pair P f g)) _ (ap not no))))
+      (λ nay. or_left (not (is_pair P f g)) _ (ap not nay))))
 
   pub no_fault : plan_fault P places ≡ None
   no_fault =

@@ -24,11 +24,11 @@ use Rattle.arr_bound.specs.Worth.{IsLargeLeaf}
 use Rattle.arr_heur.specs.Planners.{greedy_plan}
 use Rattle.arr_state.specs.declared.outcome.Outcome.{Outcome}
 use Rattle.arr_state.specs.declared.outcome.Outcome.TheVariants.{Closed, Contradiction, Spent}
-use Rattle.arr_state.specs.Known.{after}
-use Rattle.arr_state.specs.States.{Ends, Saturated}
+use Rattle.arr_state.specs.Known.{after, AreOps}
+use Rattle.arr_state.specs.States.{Ends, Saturated, Standing, known}
 use Rattle.arr_state.specs.Steps.{Steps}
 use Rattle.arr_state.specs.Went.{CanGoOn, IsClash}
-use Rattle.arr_state.proofs.Wents.{facts_after}
+use Rattle.arr_state.proofs.Wents.{facts_after, after_grows}
 use Rattle.arr_search.specs.declared.progress.Next.{Next}
 use Rattle.arr_search.specs.declared.progress.Next.TheVariants.{Split, Close}
 use Rattle.arr_search.specs.declared.progress.Progress.{Progress}
@@ -169,15 +169,15 @@ module _ (list : List Op) (budget : ℕ) where
 
     pub branch : (f g : ℕ) → may_branch P facts f g ≡ true → IsClosed P facts → (value : ℕ) → floor P facts ≤ value → value < p.cost → p.units < budget
         → IsSearch list budget (with_fact (Same f g) facts ∷ with_fact (Apart f g) facts ∷ pending) (record p { tree = p.tree ++ Branch f g ∷ []; units = p.units + 1 })
-    branch f g open closed value over low room =
-        let o = branch_parts P facts f g open in
+    branch f g free closed value over low room =
+        let o = branch_parts P facts f g free in
         record {
           running = subst (λ c. Running P G budget (with_fact (Same f g) facts ∷ with_fact (Apart f g) facts ∷ pending) (p.tree ++ Branch f g ∷ []) (p.units + 1) p.least c) (sym cost_is)
               (carried (Branch f g) (s.before.units + length s.steps + 1) (p.units + 1) s.before.least p.least s.before.cost (with_fact (Same f g) facts ∷ with_fact (Apart f g) facts ∷ pending) (omega (arith, units_are)) (sym least_is)
               (branched P G budget s.first facts pending s.before.tree s.steps s.before.units s.before.least s.before.cost s.search.running done f g o.0 o.1 o.3
               (λ a. at_ready P G budget s.first facts pending s.before.tree s.steps s.before.units s.before.least s.before.cost s.search.running done closed) (omega (arith, over, low, cost_is)) (omega (arith, units_are, room))));
           planned = planned;
-          written = one_written p.tree (Branch f g) written (branch_written list s.search.few facts f g open);
+          written = one_written p.tree (Branch f g) written (branch_written list s.search.few facts f g free);
           formed = s.search.formed;
           few = s.search.few;
         }
@@ -229,3 +229,78 @@ module _ (list : List Op) (budget : ℕ) where
     leaf_better value groups leaf closed low plan legal costs =
         leaf_at value groups leaf value plan (omega arith) (subst (Pays P) (sym costs) (plans_pay list plan s.search.formed legal))
         (record { legal = legal; cost_is = costs; improves = inr (omega (arith, low, cost_is, s.search.running.cheaper)) }) (λ l. absurd (omega arith)) (inl closed)
+
+  -- ---- how a node is worked off
+
+  pub settled_leaf : (facts : Facts) (p p' p'' : Progress) → p' ≡ p'' → p''.units ≤ budget → ((pending : List Facts) → Stands list budget facts pending p → IsSearch list budget pending p'') → Settled list budget facts p p' Close
+  settled_leaf facts p p' p'' e within keeps =
+      record {
+        within = subst (λ (q : Progress). q.units ≤ budget) (sym e) within;
+        opens = tt;
+        keeps = λ pending s. subst (λ q. IsSearch list budget pending q) (sym e) (keeps pending s);
+        fewer = λ pending. closes_fewer P facts pending;
+      }
+
+  pub settled_branch : (facts : Facts) (p p' : Progress) (f g : ℕ) → p' ≡ record p { tree = p.tree ++ Branch f g ∷ []; units = p.units + 1 } → p.units < budget → may_branch P facts f g ≡ true
+      → ((pending : List Facts) → Stands list budget facts pending p → IsSearch list budget (with_fact (Same f g) facts ∷ with_fact (Apart f g) facts ∷ pending) (record p { tree = p.tree ++ Branch f g ∷ []; units = p.units + 1 }))
+      → Settled list budget facts p p' (Split f g)
+  settled_branch facts p p' f g e room free keeps =
+      record {
+        within = omega (arith, ap (λ (q : Progress). q.units) e, room);
+        opens = free;
+        keeps = λ pending s. subst (λ q. IsSearch list budget (with_fact (Same f g) facts ∷ with_fact (Apart f g) facts ∷ pending) q) (sym e) (keeps pending s);
+        fewer = λ pending. splits_fewer P facts pending f g free;
+      }
+
+  pub worked_at_once : (trail : List Fact) (p p' p'' : Progress) → p' ≡ p'' → p''.units ≤ budget → ((pending : List Facts) → IsSearch list budget (facts_of P trail ∷ pending) p → IsSearch list budget pending p'') → Worked list budget trail trail p p' Close
+  worked_at_once trail p p' p'' e within keeps =
+      record {
+        gives = [];
+        trail_is = sym (append-nil trail);
+        within = subst (λ (q : Progress). q.units ≤ budget) (sym e) within;
+        opens = tt;
+        keeps = λ pending s. subst (λ q. IsSearch list budget pending q) (sym e) (keeps pending s);
+        fewer = λ pending. closes_fewer P (facts_of P trail) pending;
+      }
+
+  pub worked_after : (trail trail' : List Fact) (p q p' : Progress) (outcome : Outcome) (next : Next) → Advanced P budget trail trail' p q outcome → floor P (facts_of P trail) < p.cost → p.units ≤ budget → Settled list budget (facts_of P trail') q p' next → Worked list budget trail trail' p p' next
+  worked_after trail trail' p q p' outcome next a low within s =
+      record {
+        gives = a.saturated.gives;
+        trail_is = a.saturated.trail_is;
+        within = s.within;
+        opens = s.opens;
+        keeps = λ pending h. s.keeps pending (stands trail trail' pending p q outcome h low within a);
+        fewer = λ pending.
+            let less : nodes P (next_pending (facts_of P trail') next pending) < nodes P (facts_of P trail' ∷ pending) = s.fewer pending in
+            omega (arith, less, grown_fewer P (facts_of P trail) (facts_of P trail') pending grows);
+      }
+    where
+      grows : Within (facts_of P trail) (facts_of P trail')
+      grows = subst (λ F. Within (facts_of P trail) F) (sym (facts_after P trail trail' a.saturated.gives a.saturated.trail_is)) (after_grows (facts_of P trail) a.saturated.gives)
+
+  -- what is known at a node after steps
+  pub grown_node : (trail trail' : List Fact) (p q : Progress) (outcome : Outcome) → Advanced P budget trail trail' p q outcome → IsNode P (facts_of P trail) → IsNode P (facts_of P trail')
+  grown_node trail trail' p q outcome a node =
+      let F : Facts = facts_of P trail in
+      let done : Stepped P F (facts_of P trail') a.saturated.steps = subst (λ G. Stepped P F G a.saturated.steps) (sym (facts_after P trail trail' a.saturated.gives a.saturated.trail_is)) (stepped P F a.saturated.steps a.saturated.gives a.saturated.are_steps) in
+      record { roots = λ x e. done.grows x (node.roots x e); even = done.symmetric node.even; plain = done.plain node.plain }
+
+  pub advanced_units : (trail trail' : List Fact) (p q : Progress) (outcome : Outcome) → Advanced P budget trail trail' p q outcome → p.units ≤ budget → q.units ≤ budget
+  advanced_units trail trail' p q outcome a within = omega (arith, ap (λ (r : Progress). r.units) a.rest, a.saturated.within, within)
+
+  -- all units are spent where so many steps were taken as were left
+  pub advanced_all : (trail trail' : List Fact) (p q : Progress) (outcome : Outcome) (a : Advanced P budget trail trail' p q outcome) → p.units ≤ budget → length a.saturated.steps ≡ budget - p.units → q.units ≡ budget
+  advanced_all trail trail' p q outcome a within all = omega (arith, ap (λ (r : Progress). r.units) a.rest, all, within)
+
+-- ---- a state of the list
+
+pub known_at : (list : List Op) (s : Standing) → s.list ≡ list → known s ≡ facts_of (problem_of list) s.trail
+known_at list s e = ap (λ (l : List Op). facts_of (problem_of l) s.trail) e
+
+pub leaf_at_state : (list views : List Op) (s : Standing) (value : ℕ) (groups : List Charge) → views ≡ list → s.list ≡ list → IsLargeLeaf (problem_of views) (known s) value groups → IsLargeLeaf (problem_of list) (facts_of (problem_of list) s.trail) value groups
+leaf_at_state list views s value groups v e h =
+    subst (λ F. IsLargeLeaf (problem_of list) F value groups) (known_at list s e) (subst (λ (l : List Op). IsLargeLeaf (problem_of l) (known s) value groups) v h)
+
+pub about_at : (list : List Op) (s : Standing) → s.list ≡ list → ((x : Fact) → IsTrue (known s x) → AreOps (problem_of s.list) x) → (x : Fact) → IsTrue (facts_of (problem_of list) s.trail x) → AreOps (problem_of list) x
+about_at list s e h = subst (λ (l : List Op). (x : Fact) → IsTrue (facts_of (problem_of l) s.trail x) → AreOps (problem_of l) x) e h

@@ -1,19 +1,21 @@
 -- The operations with each label are a partition, and a plan of them shares a block where labels are the same.
 use Rattle.std.proofs.Common.{◌≡◌, ◌≢◌, ℕ, zero, suc, ◌+◌, ◌-◌, ◌<◌, ◌≤◌, List, [], ◌∷◌, length, get_or, map, Bool, true, false, cond, not, ◌&&◌, ◌||◌, ◌⊎◌, inl, inr, Option, Some, None, refl, sym, ap, ap₂, ◌∙◌, subst, arith, ⊎_elim}
 use Rattle.std.specs.Prelude.{◌==◌, nat_le, nat_lt}
-use Rattle.std.specs.List.{list_all, list_any, filter, range_with_len, AllByRecursion}
+use Rattle.std.specs.List.{All, list_all, list_any, filter, range_with_len, AllByRecursion}
+use Rattle.std.proofs.lemmas.List.Elements.{All-from_recursion}
 use Rattle.std.specs.List.Sorted.{IsPermutation}
-use Rattle.std.proofs.lemmas.Bool.{and_parts, and_from, or_left, or_right, true≢false, not-true, eqb-true, eqb-false, eq-eqb, ne_eqb, cases_eq, cases_lt}
+use Rattle.std.proofs.lemmas.Bool.{and_parts, and_from, or_left, or_right, true≢false, not-true, eqb-true, eqb-false, eq-eqb, ne_eqb, cases_eq, cases_lt, lt-ltb}
 use Rattle.arr_view.specs.Views.{has}
 use Rattle.arr_ops.specs.declared.op.Op.{Op}
 use Rattle.arr_ops.specs.Ops.{fusible}
-use Rattle.arr_ops.specs.Plans.{holders, not_empty, place, numbered, is_legal}
+use Rattle.arr_ops.specs.Plans.{ascends, holders, not_empty, place, numbered, is_legal}
 use Rattle.arr_ops.specs.Order.{In, ordered, each_fusible}
 use Rattle.arr_ops.proofs.Pairs.{Pairs}
 use Rattle.arr_ops.proofs.Tests.{or_cases}
 use Rattle.arr_ops.proofs.Members.{in_filter, in_permutation, held, holder_of, in_all}
 use Rattle.arr_ops.proofs.Legality.{IsPartition, Share, has_in, partition_permutation}
 use Rattle.arr_ops.proofs.Orders.{each_whole, order_legal}
+use Rattle.arr_heur.specs.Partitions.{block_in}
 use Rattle.arr_heur.proofs.Merge.{in_map}
 use Rattle.arr_heur.proofs.OrderedBlocks.{Told, all_told}
 use Rattle.arr_heur.proofs.LinearPlan.{pairs_in}
@@ -91,7 +93,7 @@ parts_partition labels a =
           let p = part_of labels b i in
           let r : (1 ≤ f) × (f ≤ length labels) = label_range labels p.0 f (subst (λ c. has c f ≡ true) p.1 e) in
           (omega (arith, r.0), r.1);
-      once = λ f l u. holders_some (map (with_label labels) (range_with_len 0 (length labels))) f ∙ held_once (with_label labels) f (place_in labels f) (λ k. has_label labels k f (omega arith) u) 0 (length labels) (omega arith) (a.below f (omega arith) u);
+      once = λ f l u. holders_some (map (with_label labels) (range_with_len 0 (length labels))) f ∙ held_once (with_label labels) f (place_in labels f) (λ k. has_label labels k f (omega arith) u) 0 (length labels) (omega arith) (omega (arith, a.below f (omega arith) u));
     }
 
 -- ---- a plan of the parts
@@ -132,7 +134,7 @@ module _ (list : List Op) (labels : List ℕ) (long : length labels ≡ length l
       let pair : is_pair P x.0 y.0 ≡ true = pair_from P x.0 y.0 (op_from P x.0 rx.0 (omega (arith, rx.1, long))) (op_from P y.0 ry.0 (omega (arith, ry.1, long))) (ap not (ne_eqb x.0 y.0 (λ e. absurd (omega (arith, lt, e))))) in
       fits x.0 y.0 x.1 y.1 told.first told.second rx.0 ry.0
       (or_cases (not (place_in labels x.0 == place_in labels y.0)) (P.fusible x.0 y.0) (at_pair P (λ f g. not (place_in labels f == place_in labels g) || P.fusible f g) together x.0 y.0 pair)
-      (λ no. absurd (true≢false (sym (eq-eqb _ _ (ex ∙ sym ey)) ∙ not-true _ no))) (λ yes. yes))) (all_told list))
+      (λ nay. absurd (true≢false (sym (eq-eqb _ _ (ex ∙ sym ey)) ∙ not-true _ nay))) (λ yes. yes))) (all_told list))
     where
       at : (f : ℕ) → op_at list (suc f) ≡ get_or list f nothing
       at f = ap (λ (k : ℕ). get_or list k nothing) (let e : suc f - 1 ≡ f = omega arith in e)
@@ -173,3 +175,62 @@ module _ (list : List Op) (labels : List ℕ) (long : length labels ≡ length l
           eq-eqb _ _ (same_place plan f g (λ b i.
           let k = own b i in
           subst (λ c. has c f ≡ has c g) (sym k.1) (has_label labels k.0 f lf (omega arith) ∙ (ap (λ n. n == k.0) (eqb-true _ _ e) ∙ sym (has_label labels k.0 g lg (omega arith))))))
+
+-- ---- what `ordered` asks of the parts
+
+Rising : ℕ → List ℕ → Type 0
+Rising a [] = Unit {0}
+Rising a (i ∷ is) = (a ≤ i) × Rising (i + 1) is
+
+weaker : (a b : ℕ) (is : List ℕ) → a ≤ b → Rising b is → Rising a is
+unfolding Rising
+weaker a b [] l h = tt
+weaker a b (i ∷ is) l h = let k : b ≤ i = h.0 in (omega arith, h.1)
+
+rising_ascends : (a : ℕ) (is : List ℕ) → Rising a is → ascends is ≡ true
+unfolding Rising
+rising_ascends a [] h = refl
+rising_ascends a (i ∷ []) h = refl
+rising_ascends a (i ∷ j ∷ is) h = let l : i + 1 ≤ j = h.1.0 in ap₂ (λ s t. s && t) (lt-ltb i j (omega arith)) (rising_ascends (i + 1) (j ∷ is) h.1)
+
+filter_rises : (p : ℕ → Bool) (a n : ℕ) → Rising a (filter p (range_with_len a n))
+unfolding Rising
+filter_rises p a zero = tt
+filter_rises p a (suc n) =
+    elim (p a) as (λ b. Rising a (cond b (a ∷ filter p (range_with_len (a + 1) n)) (filter p (range_with_len (a + 1) n)))) [
+      | true ↦ (omega arith, filter_rises p (a + 1) n)
+      | false ↦ weaker a (a + 1) (filter p (range_with_len (a + 1) n)) (omega arith) (filter_rises p (a + 1) n)
+    ]
+
+part_at : (blocks : List (List ℕ)) (k : ℕ) → k < length blocks → In (block_in blocks k) blocks
+part_at [] k l = absurd (omega arith)
+part_at (b ∷ blocks) zero l = inl refl
+part_at (b ∷ blocks) (suc k) l = inr (part_at blocks k (omega arith))
+
+pub parts_ascend : (labels : List ℕ) (k : ℕ) → k < length (parts labels) → ascends (block_in (parts labels) k) ≡ true
+parts_ascend labels k l =
+    let p = part_of labels (block_in (parts labels) k) (part_at (parts labels) k l) in
+    ap ascends p.1 ∙ rising_ascends 1 (with_label labels p.0) (filter_rises (λ f. place_in labels f == p.0) 1 (length labels))
+
+pub parts_inside : (labels : List ℕ) (n k : ℕ) → length labels ≡ n → k < length (parts labels) → All (λ i. (0 < i) × (i ≤ n)) (block_in (parts labels) k)
+parts_inside labels n k e l =
+    let p = part_of labels (block_in (parts labels) k) (part_at (parts labels) k l) in
+    All-from_recursion (λ i. (0 < i) × (i ≤ n)) (block_in (parts labels) k) (in_all (λ i. (0 < i) × (i ≤ n)) (block_in (parts labels) k) (λ i m.
+    let r : (1 ≤ i) × (i ≤ length labels) = label_range labels p.0 i (subst (λ b. has b i ≡ true) p.1 (has_in (block_in (parts labels) k) i m)) in
+    (omega (arith, r.0), omega (arith, r.1, e))))
+
+-- ---- two operations of one label
+
+at_number : (list : List Op) (f : ℕ) → op_at list (suc f) ≡ get_or list f nothing
+at_number list f = ap (λ (k : ℕ). get_or list k nothing) (let e : suc f - 1 ≡ f = omega arith in e)
+
+fusible_at : (list : List Op) (f g : ℕ) → 1 ≤ f → 1 ≤ g → fusible (op_at list f) (op_at list g) ≡ (problem_of list).fusible f g
+fusible_at list zero g lf lg = absurd (omega arith)
+fusible_at list (suc f) zero lf lg = absurd (omega arith)
+fusible_at list (suc f) (suc g) lf lg = ap₂ fusible (at_number list f) (at_number list g)
+
+pub share_tells : (list : List Op) (labels : List ℕ) (f g : ℕ) → 1 ≤ f → f ≤ length list → 1 ≤ g → g ≤ length list → f ≢ g → place_in labels f ≡ place_in labels g
+    → fusible (op_at list f) (op_at list g) ≡ (not (is_pair (problem_of list) f g) || (not (place_in labels f == place_in labels g) || (problem_of list).fusible f g))
+share_tells list labels f g lf uf lg ug ne same =
+    fusible_at list f g lf lg
+    ∙ sym (ap₂ (λ a b. not a || (not b || (problem_of list).fusible f g)) (pair_from (problem_of list) f g (op_from (problem_of list) f lf uf) (op_from (problem_of list) g lg ug) (ap not (ne_eqb f g ne))) (eq-eqb _ _ same))

@@ -1,4 +1,4 @@
--- Where no rule gives a new fact and each pair is decided, the blocks that are known are a legal plan that costs what the leaf is worth.
+-- Where nay rule gives a new fact and each pair is decided, the blocks that are known are a legal plan that costs what the leaf is worth.
 use Rattle.std.proofs.Common.{◌≡◌, ◌≢◌, ℕ, zero, suc, ◌+◌, ◌-◌, ◌<◌, ◌≤◌, List, [], ◌∷◌, length, get_or, map, Bool, true, false, cond, not, ◌&&◌, ◌||◌, ◌⊎◌, inl, inr, Option, Some, None, refl, sym, ap, ap₂, ◌∙◌, subst, arith, ⊎_elim}
 use Rattle.std.specs.Prelude.{◌==◌, nat_le, nat_lt, is_some, IsTrue}
 use Rattle.std.specs.List.{list_all, list_any, position_or_len, range_with_len, AllByRecursion}
@@ -50,36 +50,30 @@ bool_same false false f g = refl
 
 position_same : (p q : ℕ → Bool) (xs : List ℕ) → AllByRecursion (λ x. p x ≡ q x) xs → position_or_len p xs ≡ position_or_len q xs
 position_same p q [] h = refl
-position_same p q (x ∷ xs) h = ap₂ (λ b n. cond b 0 (suc n)) h.0 (position_same p q xs h.1)
+position_same p q (x ∷ xs) h = ap₂ (λ b n. cond (not b) (1 + n) 0) h.0 (position_same p q xs h.1)
 
 -- what stands at the position passes
 position_range : (p : ℕ → Bool) (a n : ℕ) → position_or_len p (range_with_len a n) < n → p (a + position_or_len p (range_with_len a n)) ≡ true
 position_range p a zero l = absurd (omega arith)
 position_range p a (suc n) l = go (p a) refl l (λ k. position_range p (a + 1) n k)
   where
-    rest : ℕ
-    rest = position_or_len p (range_with_len (a + 1) n)
-
-    go : (b : Bool) → p a ≡ b → cond b 0 (suc rest) < suc n → (rest < n → p (a + 1 + rest) ≡ true) → p (a + cond b 0 (suc rest)) ≡ true
+    go : (b : Bool) → p a ≡ b → cond (not b) (1 + position_or_len p (range_with_len (a + 1) n)) 0 < suc n → (position_or_len p (range_with_len (a + 1) n) < n → p (a + 1 + position_or_len p (range_with_len (a + 1) n)) ≡ true) → p (a + cond (not b) (1 + position_or_len p (range_with_len (a + 1) n)) 0) ≡ true
     go true e k ih = ap p (let z : a + 0 ≡ a = omega arith in z) ∙ e
-    go false e k ih = ap p (let z : a + suc rest ≡ a + 1 + rest = omega arith in z) ∙ ih (omega arith)
+    go false e k ih = ap p (let z : a + (1 + position_or_len p (range_with_len (a + 1) n)) ≡ a + 1 + position_or_len p (range_with_len (a + 1) n) = omega arith in z) ∙ ih (omega arith)
 
 position_below : (p : ℕ → Bool) (a n f : ℕ) → a ≤ f → f < a + n → p f ≡ true → position_or_len p (range_with_len a n) < n
 position_below p a zero f l u e = absurd (omega arith)
 position_below p a (suc n) f l u e = go (p a) refl (λ k. position_below p (a + 1) n f k (omega arith) e)
   where
-    rest : ℕ
-    rest = position_or_len p (range_with_len (a + 1) n)
-
     above : p a ≡ false → a + 1 ≤ f
-    above no = next (λ same. true≢false (sym (ap p same ∙ e) ∙ no)) l
+    above nay = next (λ same. true≢false (sym (ap p same ∙ e) ∙ nay)) l
       where
         next : (a ≡ f → ⊥) → a ≤ f → a + 1 ≤ f
         next ne le = omega arith
 
-    go : (b : Bool) → p a ≡ b → (a + 1 ≤ f → rest < n) → cond b 0 (suc rest) < suc n
+    go : (b : Bool) → p a ≡ b → (a + 1 ≤ f → position_or_len p (range_with_len (a + 1) n) < n) → cond (not b) (1 + position_or_len p (range_with_len (a + 1) n)) 0 < suc n
     go true t ih = omega arith
-    go false t ih = let k : rest < n = ih (above t) in omega arith
+    go false t ih = let k : position_or_len p (range_with_len (a + 1) n) < n = ih (above t) in omega arith
 
 module _ (list : List Op) (facts : Facts) (node : IsSettledNode (problem_of list) facts) (decided : IsDecided (problem_of list) facts) where
   abbrev P : Problem
@@ -100,8 +94,8 @@ module _ (list : List Op) (facts : Facts) (node : IsSettledNode (problem_of list
   given_known : (n f g h : ℕ) (rule : Rule) → rule_named P 2 n f g h ≡ Some rule → (list_all (is_op P) rule.operations && all_pairs (λ f g. not (f == g)) rule.operations) ≡ true
       → list_all facts rule.premises ≡ true → facts rule.gives ≡ true
   given_known n f g h rule is ops known =
-      by_bool (facts rule.gives) (λ t. t) (λ no.
-      absurd (true≢false (sym (and_from _ (list_all facts rule.premises && not (facts rule.gives)) ops (and_from (list_all facts rule.premises) (not (facts rule.gives)) known (ap not no))) ∙ node.closed n f g h rule is)))
+      by_bool (facts rule.gives) (λ t. t) (λ nay.
+      absurd (true≢false (sym (and_from _ (list_all facts rule.premises && not (facts rule.gives)) ops (and_from (list_all facts rule.premises) (not (facts rule.gives)) known (ap not nay))) ∙ node.closed n f g h rule is)))
 
   two : (f g : ℕ) → Is f → Is g → f ≢ g → (list_all (is_op P) (f ∷ g ∷ []) && all_pairs (λ f g. not (f == g)) (f ∷ g ∷ [])) ≡ true
   two f g of og ne = ap₂ (λ a b. (a && (b && true)) && ((not (f == g) && true) && (true && true))) of og ∙ ap (λ b. (true && (true && true)) && ((not b && true) && (true && true))) (ne_eqb f g ne)
@@ -178,7 +172,7 @@ module _ (list : List Op) (facts : Facts) (node : IsSettledNode (problem_of list
       let k : ℕ = 1 + label_of P facts f in
       shares_then f k g of (label_op f rf.0 rf.1) og (shares_turned k f (label_shares f rf.0 rf.1)) (subst (λ m. shares (1 + m) g ≡ true) (sym e) (label_shares g rg.0 rg.1))
 
-  labels_long : length (labels_of P facts) ≡ n
+  pub labels_long : length (labels_of P facts) ≡ n
   labels_long = length-map-range_with_len (label_of P facts) 1 n
 
   label_at : (f : ℕ) → 1 ≤ f → f ≤ n → place_in (labels_of P facts) f ≡ label_of P facts f
@@ -215,14 +209,14 @@ module _ (list : List Op) (facts : Facts) (node : IsSettledNode (problem_of list
       let p = pair_ops P f g pair in
       let ne : f ≢ g = eqb-false f g (not-true _ p.2) in
       or_cases (f == g) (facts (Same f g)) e (λ s. absurd (ne (eqb-true f g s))) (λ s.
-      by_bool (P.fusible f g) (λ t. t) (λ no. absurd (clash_free f g ne s (node.node.roots (Apart f g) (and_from (is_pair P f g) (not (P.fusible f g)) pair (ap not no))))))
+      by_bool (P.fusible f g) (λ t. t) (λ nay. absurd (clash_free f g ne s (node.node.roots (Apart f g) (and_from (is_pair P f g) (not (P.fusible f g)) pair (ap not nay))))))
 
   together : is_together P (labels_of P facts) ≡ true
   together = every_op (λ f. list_all (λ g. not (is_pair P f g) || (not (place_in (labels_of P facts) f == place_in (labels_of P facts) g) || P.fusible f g)) (operations P)) (λ f of.
       every_op (λ g. not (is_pair P f g) || (not (place_in (labels_of P facts) f == place_in (labels_of P facts) g) || P.fusible f g)) (λ g og.
       by_bool (is_pair P f g) (λ pair.
-      or_right (not (is_pair P f g)) _ (by_bool (shares f g) (λ s. or_right (not (place_in (labels_of P facts) f == place_in (labels_of P facts) g)) (P.fusible f g) (fuses f g pair s)) (λ no. or_left (not (place_in (labels_of P facts) f == place_in (labels_of P facts) g)) (P.fusible f g) (ap not (label_share f g of og ∙ no)))))
-      (λ no. or_left (not (is_pair P f g)) _ (ap not no))))
+      or_right (not (is_pair P f g)) _ (by_bool (shares f g) (λ s. or_right (not (place_in (labels_of P facts) f == place_in (labels_of P facts) g)) (P.fusible f g) (fuses f g pair s)) (λ nay. or_left (not (place_in (labels_of P facts) f == place_in (labels_of P facts) g)) (P.fusible f g) (ap not (label_share f g of og ∙ nay)))))
+      (λ nay. or_left (not (is_pair P f g)) _ (ap not nay))))
     where
       every_from : (p : ℕ → Bool) → ((f : ℕ) → Is f → p f ≡ true) → (a k : ℕ) → 1 ≤ a → a + k ≤ 1 + n → list_all p (range_with_len a k) ≡ true
       every_from p h a zero l u = refl
@@ -240,24 +234,24 @@ module _ (list : List Op) (facts : Facts) (node : IsSettledNode (problem_of list
   rank f = sum_below (λ i. bit (stands (suc i) f)) n
 
   stands_then : (h f g : ℕ) → Is h → Is f → Is g → stands h f ≡ true → facts (Before f g) ≡ true → f ≢ g → facts (Same f g) ≡ false → stands h g ≡ true
-  stands_then h f g oh of og s b ne no =
+  stands_then h f g oh of og s b ne nay =
       or_cases (h == f) (facts (Before h f)) s (λ e. or_right (h == g) (facts (Before h g)) (subst (λ k. facts (Before k g) ≡ true) (sym (eqb-true h f e)) b)) (λ e.
       ⊎_elim (λ (same : h ≡ g). or_left (h == g) (facts (Before h g)) (eq-eqb h g same)) (λ (hg : h ≢ g).
       ⊎_elim (λ (same : h ≡ f). or_right (h == g) (facts (Before h g)) (subst (λ k. facts (Before k g) ≡ true) (sym same) b)) (λ (hf : h ≢ f).
       or_right (h == g) (facts (Before h g)) (before_before h f g oh of og hf hg ne e b)) (cases_eq h f)) (cases_eq h g))
 
   not_behind : (f g : ℕ) → Is f → Is g → f ≢ g → facts (Before f g) ≡ true → facts (Same f g) ≡ false → stands g f ≡ false
-  not_behind f g of og ne b no =
-      false_from_ne_true (stands g f) (λ s. or_cases (g == f) (facts (Before g f)) s (λ e. ne (sym (eqb-true g f e))) (λ e. true≢false (sym (both_same f g of og ne b e) ∙ no)))
+  not_behind f g of og ne b nay =
+      false_from_ne_true (stands g f) (λ s. or_cases (g == f) (facts (Before g f)) s (λ e. ne (sym (eqb-true g f e))) (λ e. true≢false (sym (both_same f g of og ne b e) ∙ nay)))
 
   ranks : (f g : ℕ) → Is f → Is g → f ≢ g → facts (Before f g) ≡ true → facts (Same f g) ≡ false → rank f < rank g
   unfolding rank
-  ranks f g of og ne b no =
+  ranks f g of og ne b nay =
       let rg : (1 ≤ g) × (g ≤ n) = op_range P g og in
       let less : rank f + 1 ≤ rank g =
       sum_below-less (λ i. bit (stands (suc i) f)) (λ i. bit (stands (suc i) g)) n (g - 1) (omega (arith, rg.0, rg.1))
-      (λ j l. bit-le (stands (suc j) f) (stands (suc j) g) (λ s. stands_then (suc j) f g (op_from P (suc j) (omega arith) (omega arith)) of og s b ne no))
-      (here g rg.0 (not_behind f g of og ne b no)) in
+      (λ j l. bit-le (stands (suc j) f) (stands (suc j) g) (λ s. stands_then (suc j) f g (op_from P (suc j) (omega arith) (omega arith)) of og s b ne nay))
+      (here g rg.0 (not_behind f g of og ne b nay)) in
       omega (arith, less)
     where
       here : (g : ℕ) → 1 ≤ g → stands g f ≡ false → bit (stands (suc (g - 1)) f) + 1 ≤ bit (stands (suc (g - 1)) g)
@@ -330,8 +324,8 @@ module _ (list : List Op) (facts : Facts) (node : IsSettledNode (problem_of list
       let ne : x.0 ≢ y.0 = λ same. absurd (omega (arith, lt, same)) in
       let pair : is_pair P x.0 y.0 ≡ true = pair_from P x.0 y.0 pa.0 pb.0 (ap not (ne_eqb x.0 y.0 ne)) in
       let before : facts (Before x.0 y.0) ≡ true = node.node.roots (Before x.0 y.0) (and_from (is_pair P x.0 y.0) (P.dep x.0 y.0) pair (law_dep x.0 y.0 x.1 y.1 told.first told.second (op_range P x.0 pa.0).0 lt d)) in
-      let no : facts (Same x.0 y.0) ≡ false = false_from_ne_true (facts (Same x.0 y.0)) (λ s. differ (least_alike a b ia ib x.0 y.0 hx hy pa.0 pb.0 (or_right (x.0 == y.0) (facts (Same x.0 y.0)) s))) in
-      let r : rank x.0 < rank y.0 = ranks x.0 y.0 pa.0 pb.0 ne before no in
+      let nay : facts (Same x.0 y.0) ≡ false = false_from_ne_true (facts (Same x.0 y.0)) (λ s. differ (least_alike a b ia ib x.0 y.0 hx hy pa.0 pb.0 (or_right (x.0 == y.0) (facts (Same x.0 y.0)) s))) in
+      let r : rank x.0 < rank y.0 = ranks x.0 y.0 pa.0 pb.0 ne before nay in
       omega (arith, r, rank_alike x.0 (least_of a) pa.0 pa.1 pa.2, rank_alike y.0 (least_of b) pb.0 pb.1 pb.2)) (numbered list) (all_told list))
     where
       -- parts with operations that share a block are one
@@ -382,14 +376,14 @@ module _ (list : List Op) (facts : Facts) (node : IsSettledNode (problem_of list
       decides : Decides P facts (place plan)
       decides f g of og differ =
           let ne : f ≢ g = λ e. differ (ap (place plan) e) in
-          let no : facts (Same f g) ≡ false = sym (is.shared f g (pair_is f g of og ne)) ∙ ne_eqb _ _ differ in
-          ⊎_elim (λ (l : f < g). known f g of og l no)
-          (λ (l : g ≤ f). turn_apart g f (known g f og of (less f g l (λ e. ne (sym e))) (false_from_ne_true (facts (Same g f)) (λ s. true≢false (sym (turn_same g f s) ∙ no))))) (cases_lt f g)
+          let nay : facts (Same f g) ≡ false = sym (is.shared f g (pair_is f g of og ne)) ∙ ne_eqb _ _ differ in
+          ⊎_elim (λ (l : f < g). known f g of og l nay)
+          (λ (l : g ≤ f). turn_apart g f (known g f og of (less f g l (λ e. ne (sym e))) (false_from_ne_true (facts (Same g f)) (λ s. true≢false (sym (turn_same g f s) ∙ nay))))) (cases_lt f g)
         where
           less : (f g : ℕ) → g ≤ f → (g ≡ f → ⊥) → g < f
           less f g l d = omega arith
 
           known : (f g : ℕ) → Is f → Is g → f < g → facts (Same f g) ≡ false → facts (Apart f g) ≡ true
-          known f g of og l no =
+          known f g of og l nay =
               by_bool (facts (Apart f g)) (λ t. t) (λ a.
-              absurd (true≢false (sym (and_from ((is_op P f && is_op P g) && nat_lt f g) (not (facts (Same f g)) && not (facts (Apart f g))) (and_from (is_op P f && is_op P g) (nat_lt f g) (and_from (is_op P f) (is_op P g) of og) (lt-ltb f g l)) (and_from (not (facts (Same f g))) (not (facts (Apart f g))) (ap not no) (ap not a))) ∙ decided f g)))
+              absurd (true≢false (sym (and_from ((is_op P f && is_op P g) && nat_lt f g) (not (facts (Same f g)) && not (facts (Apart f g))) (and_from (is_op P f && is_op P g) (nat_lt f g) (and_from (is_op P f) (is_op P g) of og) (lt-ltb f g l)) (and_from (not (facts (Same f g))) (not (facts (Apart f g))) (ap not nay) (ap not a))) ∙ decided f g)))

@@ -103,7 +103,7 @@ module _ (list : List Op) (budget : ℕ) (trail now : List Fact) (waits : List W
   fewer = same.fewer (waiting P trail (reverse waits))
 
   pub open_here : (f g : ℕ) → next ≡ Split f g → may_branch P (facts_of P now) f g ≡ true
-  open_here f g e = subst (MaySplit P (facts_of P now)) e same.open
+  open_here f g e = subst (MaySplit P (facts_of P now)) e same.opens
 
   -- the second child waits, the first is next
   pub turn_split : (f g mark : ℕ) (after : List Fact) (waits' : List Waiting) → next ≡ Split f g → mark ≡ length now → waits' ≡ waits ++ record { mark = mark; f = f; g = g } ∷ [] → after ≡ now ++ Same f g ∷ [] → Turned list budget trail after waits waits' p'

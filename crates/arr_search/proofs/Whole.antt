@@ -155,3 +155,11 @@ begun list p formed few tree units least plan costs budget =
       planned = record { legal = subst (λ q. IsTrue (is_legal list q)) (sym plan) legal; cost_is = costs; improves = inl plan };
       written = ap (list_all is_written) tree;
     }
+
+pub best_as : (list : List Op) (number budget : ℕ) (p : Progress) (s : IsSearch list budget [] p) → number < 2 ^ 32 → p.cost < 2 ^ 64 → (bound count : ℕ) (places : List ℕ) → bound ≡ min p.cost p.least → count ≡ length list → places ≡ places_of list p.plan
+    → IsBest list number budget (record { plan = p.plan; cost = p.cost; bound = bound; units = p.units; certificate = record { version = 2; number = number; count = count; places = places; cost = p.cost; bound = bound; tree = p.tree } })
+best_as list number budget p s narrow cheap bound count places eb ec ep =
+    subst (λ (b : ℕ). IsBest list number budget (record { plan = p.plan; cost = p.cost; bound = b; units = p.units; certificate = record { version = 2; number = number; count = count; places = places; cost = p.cost; bound = b; tree = p.tree } })) (sym eb)
+    (subst (λ (n : ℕ). IsBest list number budget (record { plan = p.plan; cost = p.cost; bound = min p.cost p.least; units = p.units; certificate = record { version = 2; number = number; count = n; places = places; cost = p.cost; bound = min p.cost p.least; tree = p.tree } })) (sym ec)
+    (subst (λ (q : List ℕ). IsBest list number budget (record { plan = p.plan; cost = p.cost; bound = min p.cost p.least; units = p.units; certificate = record { version = 2; number = number; count = length list; places = q; cost = p.cost; bound = min p.cost p.least; tree = p.tree } })) (sym ep)
+    (best list number budget p s narrow cheap)))

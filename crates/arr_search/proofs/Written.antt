@@ -19,13 +19,13 @@ use Rattle.arr_ops.proofs.Alike.{identical_symm, identical_trans}
 use Rattle.arr_ops.proofs.Merged.{distinct_apart}
 use Rattle.arr_law.specs.declared.charge.Charge.{Charge}
 use Rattle.arr_law.specs.declared.fact.Fact.{Fact}
-use Rattle.arr_law.specs.declared.fact.Fact.TheVariants.{Same, Apart}
+use Rattle.arr_law.specs.declared.fact.Fact.TheVariants.{Same, Apart, Before}
 use Rattle.arr_law.specs.declared.record.Record.{Record}
 use Rattle.arr_law.specs.declared.record.Record.TheVariants.{Flush, Plan, Cost, Bound, Step, Branch, Dead, Worth, End}
 use Rattle.arr_law.specs.Problem.{Problem, ends_base_of, is_op, sum_below}
 use Rattle.arr_law.specs.Facts.{Facts, with_fact}
 use Rattle.arr_law.specs.Rules.{Rule, free_rule, rule_named, applies}
-use Rattle.arr_law.specs.Leaves.{surely_charges, class_of, is_group, is_leaf}
+use Rattle.arr_law.specs.Leaves.{is_apart, surely_charges, class_of, is_group, is_leaf}
 use Rattle.arr_law.specs.ProblemOf.{no_view, numbered_view, op_at, problem_of, view_at, views_of}
 use Rattle.arr_law.specs.Trees.{may_branch}
 use Rattle.arr_law.proofs.Members.{op_range}
@@ -79,12 +79,12 @@ module _ (list : List Op) (few : length list ≤ 256) where
 
   step_written : (facts : Facts) (n f g h : ℕ) (x : Fact) → given P facts (rule_named P 2 n f g h) ≡ Some x → third n h ≡ h → is_written (Step n f g h) ≡ true
   step_written facts n f g h x e t =
-      ⊎_elim (λ (k : n ≡ 3). at 3 k (λ e t. two_at 3 f g h refl refl refl t (rule_ops facts _ x e).0 (rule_ops facts _ x e).1.0) e t) (λ n3.
-      ⊎_elim (λ (k : n ≡ 4). at 4 k (λ e t. three_at 4 f g h refl refl (rule_ops facts _ x e).0 (rule_ops facts _ x e).1.0 (rule_ops facts _ x e).1.1.0) e t) (λ n4.
-      ⊎_elim (λ (k : n ≡ 5). at 5 k (λ e t. two_at 5 f g h refl refl refl t (rule_ops facts _ x e).0 (rule_ops facts _ x e).1.0) e t) (λ n5.
-      ⊎_elim (λ (k : n ≡ 6). at 6 k (λ e t. three_at 6 f g h refl refl (rule_ops facts _ x e).0 (rule_ops facts _ x e).1.0 (rule_ops facts _ x e).1.1.0) e t) (λ n6.
-      ⊎_elim (λ (k : n ≡ 7). at 7 k (λ e t. three_at 7 f g h refl refl (rule_ops facts _ x e).0 (rule_ops facts _ x e).1.0 (rule_ops facts _ x e).1.1.0) e t) (λ n7.
-      ⊎_elim (λ (k : n ≡ 8). at 8 k (λ e t. three_at 8 f g h refl refl (rule_ops facts _ x e).0 (rule_ops facts _ x e).1.0 (rule_ops facts _ x e).1.1.0) e t) (λ n8.
+      ⊎_elim (λ (k : n ≡ 3). at 3 k (λ e t. let o = rule_ops facts (record { operations = f ∷ g ∷ []; premises = Same f g ∷ []; gives = Before f g }) x e in two_at 3 f g h refl refl refl t o.0 o.1.0) e t) (λ n3.
+      ⊎_elim (λ (k : n ≡ 4). at 4 k (λ e t. let o = rule_ops facts (record { operations = f ∷ g ∷ h ∷ []; premises = Before f g ∷ Before g h ∷ []; gives = Before f h }) x e in three_at 4 f g h refl refl o.0 o.1.0 o.1.1.0) e t) (λ n4.
+      ⊎_elim (λ (k : n ≡ 5). at 5 k (λ e t. let o = rule_ops facts (record { operations = f ∷ g ∷ []; premises = Before f g ∷ Before g f ∷ []; gives = Same f g }) x e in two_at 5 f g h refl refl refl t o.0 o.1.0) e t) (λ n5.
+      ⊎_elim (λ (k : n ≡ 6). at 6 k (λ e t. let o = rule_ops facts (record { operations = f ∷ g ∷ h ∷ []; premises = Same f g ∷ Apart g h ∷ []; gives = Apart f h }) x e in three_at 6 f g h refl refl o.0 o.1.0 o.1.1.0) e t) (λ n6.
+      ⊎_elim (λ (k : n ≡ 7). at 7 k (λ e t. let o = rule_ops facts (record { operations = f ∷ g ∷ h ∷ []; premises = Before f g ∷ Before g h ∷ Apart f g ∷ []; gives = Apart f h }) x e in three_at 7 f g h refl refl o.0 o.1.0 o.1.1.0) e t) (λ n7.
+      ⊎_elim (λ (k : n ≡ 8). at 8 k (λ e t. let o = rule_ops facts (record { operations = f ∷ g ∷ h ∷ []; premises = Before f g ∷ Before g h ∷ Apart g h ∷ []; gives = Apart f h }) x e in three_at 8 f g h refl refl o.0 o.1.0 o.1.1.0) e t) (λ n8.
       ⊎_elim (λ (k : n ≡ 9). at 9 k (λ e t. free_at e t) e t) (λ n9.
       absurd (never (given_none P facts n f g h n3 n4 n5 n6 n7 n8 n9 ∙ e))) (cases_eq n 9)) (cases_eq n 8)) (cases_eq n 7)) (cases_eq n 6)) (cases_eq n 5)) (cases_eq n 4)) (cases_eq n 3)
     where
@@ -143,8 +143,8 @@ module _ (list : List Op) (few : length list ≤ 256) where
   none_like : (v x : Strided) (ds : List Strided) → identical x v ≡ true → AllByRecursion (λ y. identical y x ≡ false) ds → sum_below (λ c. bit (identical (get_or ds c no_view) v)) (length ds) ≡ 0
   none_like v x [] e a = refl
   none_like v x (y ∷ ds) e a =
-      let no : identical y v ≡ false = by_bool (identical y v) (λ t. absurd (true≢false (sym (identical_trans y v x t (identical_symm x v e)) ∙ a.0))) (λ f. f) in
-      omega (arith, sum_below-front (λ c. bit (identical (get_or (y ∷ ds) c no_view) v)) (length ds), ap bit no, none_like v x ds e a.1)
+      let nay : identical y v ≡ false = by_bool (identical y v) (λ t. absurd (true≢false (sym (identical_trans y v x t (identical_symm x v e)) ∙ a.0))) (λ f. f) in
+      omega (arith, sum_below-front (λ c. bit (identical (get_or (y ∷ ds) c no_view) v)) (length ds), ap bit nay, none_like v x ds e a.1)
 
   one_like : (v : Strided) (ds : List Strided) → Pairs (λ x y. identical y x ≡ false) ds → sum_below (λ c. bit (identical (get_or ds c no_view) v)) (length ds) ≤ 1
   one_like v [] p = omega arith
@@ -202,22 +202,22 @@ module _ (list : List Op) (few : length list ≤ 256) where
   module _ (facts : Facts) where
     -- the operations of a group touch its class
     group_few : (a : Charge) → is_group P facts a ≡ true → (class_of P a < P.classes) × (length a.ops ≤ sum_below (λ f. bit (touches f (class_of P a))) (length list + 1))
-    group_few a e = (ltb-true _ _ q.0, subst (λ s. s ≤ sum_below (λ f. bit (touches f c)) (length list + 1)) (sum_by-const 1 a.ops ∙ (let m : 1 * length a.ops ≡ length a.ops = omega arith in m)) counted)
+    group_few a e = (ltb-true _ _ q.0, subst (λ s. s ≤ sum_below (λ f. bit (touches f (class_of P a))) (length list + 1)) (sum_by-const 1 a.ops ∙ (let m : 1 * length a.ops ≡ length a.ops = omega arith in m)) counted)
       where
-        c : ℕ
-        c = class_of P a
-
         p : ((nat_lt (class_of P a) P.classes && list_all (is_op P) a.ops) ≡ true) × (((all_pairs nat_lt a.ops && all_pairs (λ f g. facts (Apart f g)) a.ops) && list_all (λ f. surely_charges P facts f (class_of P a)) a.ops) ≡ true)
-        p = and_parts _ _ e
+        p = and_parts (nat_lt (class_of P a) P.classes && list_all (is_op P) a.ops) ((all_pairs nat_lt a.ops && all_pairs (λ f g. facts (Apart f g)) a.ops) && list_all (λ f. surely_charges P facts f (class_of P a)) a.ops) e
 
         q : (nat_lt (class_of P a) P.classes ≡ true) × (list_all (is_op P) a.ops ≡ true)
-        q = and_parts _ _ p.0
+        q = and_parts (nat_lt (class_of P a) P.classes) (list_all (is_op P) a.ops) p.0
 
         r : ((all_pairs nat_lt a.ops && all_pairs (λ f g. facts (Apart f g)) a.ops) ≡ true) × (list_all (λ f. surely_charges P facts f (class_of P a)) a.ops ≡ true)
-        r = and_parts _ _ p.1
+        r = and_parts (all_pairs nat_lt a.ops && all_pairs (λ f g. facts (Apart f g)) a.ops) (list_all (λ f. surely_charges P facts f (class_of P a)) a.ops) p.1
 
         touching : (f : ℕ) → surely_charges P facts f (class_of P a) ≡ true → touches f (class_of P a) ≡ true
-        touching f s = or_cases _ _ s (λ x. or_left (P.reads f (class_of P a)) _ (and_parts _ _ x).0) (λ x. or_right (P.reads f (class_of P a)) _ (and_parts _ _ x).0)
+        touching f s =
+            or_cases (P.reads f (class_of P a) && is_apart facts f (P.creator (P.base (class_of P a)))) (P.writes f (class_of P a) && is_apart facts f (P.freer (P.base (class_of P a)))) s
+            (λ x. or_left (P.reads f (class_of P a)) (P.writes f (class_of P a)) (and_parts (P.reads f (class_of P a)) (is_apart facts f (P.creator (P.base (class_of P a)))) x).0)
+            (λ x. or_right (P.reads f (class_of P a)) (P.writes f (class_of P a)) (and_parts (P.writes f (class_of P a)) (is_apart facts f (P.freer (P.base (class_of P a)))) x).0)
 
         one : (f : ℕ) → is_op P f ≡ true → surely_charges P facts f (class_of P a) ≡ true → (f < length list + 1) × (1 ≤ bit (touches f (class_of P a)))
         one f of s = let z : (1 ≤ f) × (f ≤ length list) = op_range P f of in (omega (arith, z.1), subst (λ b. 1 ≤ bit b) (sym (touching f s)) (omega arith))
@@ -226,7 +226,7 @@ module _ (list : List Op) (few : length list ≤ 256) where
         counted =
             sum_distinct (λ (f : ℕ). 1) (λ f. f) (length list + 1) a.ops (λ f. bit (touches f (class_of P a)))
             (all_both (λ f. is_op P f ≡ true) (λ f. surely_charges P facts f (class_of P a) ≡ true) (λ f. (f < length list + 1) × (1 ≤ bit (touches f (class_of P a)))) a.ops one (all_of (is_op P) a.ops q.1) (all_of (λ f. surely_charges P facts f (class_of P a)) a.ops r.1))
-            (Pairs_weaker (λ f g. nat_lt f g ≡ true) (λ f g. f ≢ g) (λ f g l same. let m : f < g = ltb-true f g l in absurd (omega (arith, m, same))) a.ops (pairs_of nat_lt a.ops (and_parts _ _ r.0).0))
+            (Pairs_weaker (λ f g. nat_lt f g ≡ true) (λ f g. f ≢ g) (λ f g l same. let m : f < g = ltb-true f g l in absurd (omega (arith, m, same))) a.ops (pairs_of nat_lt a.ops (and_parts (all_pairs nat_lt a.ops) (all_pairs (λ f g. facts (Apart f g)) a.ops) r.0).0))
 
     groups_few : (groups : List Charge) → is_leaf P facts groups ≡ true → sum_by (λ (a : Charge). length a.ops) groups ≤ 771
     groups_few groups e =
@@ -247,7 +247,7 @@ module _ (list : List Op) (few : length list ≤ 256) where
     group_spelled a e = (operand a.ops refl, some a.ops refl, All_weaker (λ f. is_op P f ≡ true) (λ f. f ≤ 256) small_op a.ops (all_of (is_op P) a.ops q.1))
       where
         q : (nat_lt (class_of P a) P.classes ≡ true) × (list_all (is_op P) a.ops ≡ true)
-        q = and_parts _ _ (and_parts _ _ e).0
+        q = and_parts (nat_lt (class_of P a) P.classes) (list_all (is_op P) a.ops) (and_parts (nat_lt (class_of P a) P.classes && list_all (is_op P) a.ops) ((all_pairs nat_lt a.ops && all_pairs (λ f g. facts (Apart f g)) a.ops) && list_all (λ f. surely_charges P facts f (class_of P a)) a.ops) e).0
 
         below : class_of P a < P.classes
         below = ltb-true _ _ q.0

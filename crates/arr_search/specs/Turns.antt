@@ -46,7 +46,7 @@ MaySplit problem facts Close = Unit {0}
 -- the node at which a search stands is worked off
 pub record Settled (list : List Op) (budget : ℕ) (facts : Facts) (p p' : Progress) (next : Next) : Type 0 where
   pub within : p'.units ≤ budget
-  pub open : MaySplit (problem_of list) facts next
+  pub opens : MaySplit (problem_of list) facts next
   pub keeps : (pending : List Facts) → Stands list budget facts pending p → IsSearch list budget (next_pending facts next pending) p'
   pub fewer : (pending : List Facts) → nodes (problem_of list) (next_pending facts next pending) < nodes (problem_of list) (facts ∷ pending)
 
@@ -55,7 +55,7 @@ pub record Worked (list : List Op) (budget : ℕ) (trail trail' : List Fact) (p 
   pub gives : List Fact
   pub trail_is : trail' ≡ trail ++ gives
   pub within : p'.units ≤ budget
-  pub open : MaySplit (problem_of list) (facts_of (problem_of list) trail') next
+  pub opens : MaySplit (problem_of list) (facts_of (problem_of list) trail') next
   pub keeps : (pending : List Facts) → IsSearch list budget (facts_of (problem_of list) trail ∷ pending) p → IsSearch list budget (next_pending (facts_of (problem_of list) trail') next pending) p'
   pub fewer : (pending : List Facts) → nodes (problem_of list) (next_pending (facts_of (problem_of list) trail') next pending) < nodes (problem_of list) (facts_of (problem_of list) trail ∷ pending)
 

@@ -1,5 +1,6 @@
 //! The search for a best plan.
-ghost use Rattle.std.specs.Prelude.{◌≡◌, ◌∷◌, [], ℕ, IfOk};
+ghost use Rattle.std.specs.Prelude.{◌≡◌, ◌≤◌, ◌∷◌, [], ℕ, IfOk, IsTrue, length};
+ghost use Rattle.arr_ops.specs.Formed.{is_formed};
 ghost use Rattle.arr_law.specs.Facts.{root_facts};
 ghost use Rattle.arr_law.specs.ProblemOf.{problem_of};
 ghost use Rattle.arr_search.specs.Best.{IsBest};
@@ -21,7 +22,9 @@ use std::alloc::Global;
 
 /// What a search begins with: greedy's plan, and no record.
 fn begin(alloc: Global, graph: &Graph, costs: &Costs) -> Result<Progress, NoMemory>
-    requires { costs.now ≡ graph.now }
+    requires costs { costs.now ≡ graph.now }
+    requires formed { IsTrue (is_formed graph.now) }
+    requires few { length graph.now ≤ 256 }
     ensures { IfOk result (λ p. (budget : ℕ) → IsSearch graph.now budget (root_facts (problem_of graph.now) ∷ []) p) }
 {
     let plan = greedy(alloc, graph, costs)?;

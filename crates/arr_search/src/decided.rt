@@ -1,6 +1,7 @@
 //! The plan of a node at which it is known of each two operations whether they share a block.
-ghost use Rattle.std.specs.Prelude.{◌≡◌, ◌≤◌, ◌<◌, IfOk, length};
+ghost use Rattle.std.specs.Prelude.{◌≡◌, ◌≤◌, ◌<◌, ◌==◌, ◌||◌, IfOk, length};
 ghost use Rattle.arr_law.specs.ProblemOf.{problem_of};
+ghost use Rattle.arr_law.specs.declared.fact.Fact.TheVariants.{Same};
 ghost use Rattle.arr_state.specs.States.{known};
 ghost use Rattle.arr_search.specs.Nodes.{IsDecided, IsPlanOf, IsSettledNode};
 ghost use Rattle.arr_search.specs.Parts.{label_of, labels_of};
@@ -13,6 +14,16 @@ use arr_ops::Plan;
 use arr_state::State;
 use std::alloc::Global;
 
+/// Whether two operations are known to share a block, or are one.
+fn shares(state: &State, h: u32, f: u32) -> bool
+    ensures { result ≡ ((h == f) || known state.now (Same h f)) }
+{
+    if h == f {
+        return true;
+    }
+    state.known(Fact::Same(h, f))
+}
+
 /// How many operations stand before the first that is known to share the block of `f`.
 fn label_of(graph: &Graph, state: &State, f: u32) -> u32
     requires list { state.now.list ≡ graph.now }
@@ -21,7 +32,7 @@ fn label_of(graph: &Graph, state: &State, f: u32) -> u32
     ensures { result ≡ label_of (problem_of graph.now) (known state.now) f }
 {
     for place in 0..graph.len() {
-        if place + 1 == f || state.known(Fact::Same(place + 1, f)) {
+        if shares(state, place + 1, f) {
             return place;
         }
     }

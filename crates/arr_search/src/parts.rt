@@ -69,7 +69,10 @@ fn may_share(graph: &Graph, labels: &[u32], f: u32, g: u32) -> bool
     if f == g {
         return true;
     }
-    labels[f as usize - 1] != labels[g as usize - 1] || graph.fusible(f, g)
+    if labels[f as usize - 1] != labels[g as usize - 1] {
+        return true;
+    }
+    graph.fusible(f, g)
 }
 
 fn may_share_all(graph: &Graph, labels: &[u32], f: u32) -> bool
@@ -89,7 +92,8 @@ fn may_share_all(graph: &Graph, labels: &[u32], f: u32) -> bool
 /// Whether each two operations of one label may share a block.
 fn is_together(graph: &Graph, labels: &[u32]) -> bool
     requires { length labels.now ≡ length graph.now }
-    ensures { result ≡ is_together (problem_of graph.now) labels.now }
+    ensures value { result ≡ is_together (problem_of graph.now) labels.now }
+    ensures few { length graph.now ≤ MOST }
 {
     for k in 0..graph.len() {
         if !may_share_all(graph, labels, k + 1) {

@@ -17,7 +17,8 @@ fn has(block: &[u32], f: u32) -> bool
 
 /// The place of the block of an operation, counted from 0.
 fn place_of(plan: &Plan, f: u32) -> usize
-    ensures { result ≡ place plan.now f }
+    ensures value { result ≡ place plan.now f }
+    ensures most { result ≤ length plan.now }
 {
     for place in 0..plan.blocks.len() {
         if has(plan.blocks[place].as_slice(), f) {
