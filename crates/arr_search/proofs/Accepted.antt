@@ -69,8 +69,8 @@ trees_say_yes problem c version count legal costs whole =
     let n = answer_tree problem c.number c.places c.cost c.bound 5 (root_facts problem ∷ []) c.tree whole in (
       n.0,
       ap (λ b. answer_unless (unless b BadHead) 1 (after_head problem c c.version)) (and_from (c.number == c.number) (c.count == problem.count) (eq-eqb c.number c.number refl) (eq-eqb c.count problem.count count))
-      ∙ (ap (λ v. after_head problem c v) version
-      ∙ (ap (λ fault. answer_unless fault 2 (after_plan problem c)) legal
-      ∙ (ap (λ b. answer_unless (unless b WrongCost) 3 (after_cost problem c)) (eq-eqb c.cost (price problem c.places) costs)
-      ∙ n.1))),
+          ∙ (ap (λ v. after_head problem c v) version
+          ∙ (ap (λ fault. answer_unless fault 2 (after_plan problem c)) legal
+          ∙ (ap (λ b. answer_unless (unless b WrongCost) 3 (after_cost problem c)) (eq-eqb c.cost (price problem c.places) costs)
+          ∙ n.1))),
     )

@@ -161,7 +161,7 @@ module _ (list : List Op) (facts : Facts) (node : IsSettledNode (problem_of list
       every a zero l u = tt
       every a (suc k) l u = (
         let oa : Is a = op_from P a l (omega arith) in
-        bool_same (shares a f) (shares a g) (λ s. shares_then a f g oa of og s e) (λ s. shares_then a g f oa og of s (shares_turned f g e)),
+            bool_same (shares a f) (shares a g) (λ s. shares_then a f g oa of og s e) (λ s. shares_then a g f oa og of s (shares_turned f g e)),
         every (a + 1) k (omega arith) (omega arith),
       )
 

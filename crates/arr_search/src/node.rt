@@ -8,8 +8,8 @@ ghost use Rattle.arr_search.specs.Nodes.{IsNode, IsSettledNode};
 ghost use Rattle.arr_search.specs.Turns.{Advanced, Settled, Worked};
 
 use crate::NoMemory;
-use crate::decided::plan_of;
 use crate::choice::choose;
+use crate::decided::plan_of;
 use crate::progress::{Next, Progress, close_dead, close_leaf, open_branch};
 use arr_bound::{Views, charges};
 use arr_deps::Graph;
@@ -17,11 +17,7 @@ use arr_state::{Outcome, State};
 use std::alloc::Global;
 
 /// Appends steps within the budget that is left, and counts them.
-fn advance(
-    state: &mut State,
-    progress: &mut Progress,
-    budget: u64,
-) -> Result<Outcome, NoMemory>
+fn advance(state: &mut State, progress: &mut Progress, budget: u64) -> Result<Outcome, NoMemory>
     requires { progress.old.units ≤ budget }
     ensures list { state.new.list ≡ state.old.list }
     ensures about { (x : Fact) → IsTrue (known state.new x) → AreOps (problem_of state.new.list) x }
