@@ -9,9 +9,24 @@
 //! `Laws`. docs/CERTIFICATES.md, "Searching", states the same in words.
 #![tactic(auto)]
 
+mod best;
+mod choice;
+mod decided;
+mod explore;
+mod found;
 mod laws;
+mod node;
+mod ops;
+mod parts;
+mod places;
+mod progress;
 
+pub use best::search;
+pub use found::Found;
 pub use laws::{
     branches, dies, finds_closure, finishes, improves, leaves, plans_pay, starts, steps_are_few,
     trees_are_accepted,
 };
+
+/// Want of memory.
+pub use std::alloc::AllocError as NoMemory;
