@@ -4,7 +4,8 @@
 usage: report.py [--svg=N] [LISTING]
 
 LISTING, or standard input, is what `bohrium run --plan` or `--cert` writes. Written out is one page of HTML that needs no other file; with
---svg=N only the picture of flush N. In a picture a column is a block and a line in it an operation. Arrows go from an operation to those that
+--svg=N only the picture of flush N. In a picture a column is a block, in order from left to right and row by row,
+and a line in it an operation. Arrows go from an operation to those that
 depend on it: the others follow from these. A base in colour with a small circle is contracted: no buffer is made for it.
 """
 import html
@@ -14,8 +15,8 @@ import sys
 from lists import Problem, inputs, serial
 from steps import Op, View, in_order
 
-LINE, GLYPH, GAP, HEAD, PAD = 17, 6.7, 46, 62, 8
-NARROWEST, WIDEST = 150, 360
+LINE, GLYPH, GAP, HEAD, PAD, LEFT = 17, 6.7, 46, 62, 8, 32
+NARROWEST, WIDEST, WIDEST_ROW = 150, 360, 1260
 MOST_LEAVES, MOST_HEAD = 12, 100
 
 STYLE = """
@@ -30,7 +31,7 @@ PAGE = """<!DOCTYPE html>
 <html lang="en"><head><meta charset="utf-8"><title>Plans of a run</title><style>
 body { font: 15px/1.5 system-ui, sans-serif; color: #1b2733; margin: 2em auto; max-width: 1280px; padding: 0 1em; }
 table { border-collapse: collapse; } td, th { border: 1px solid #cfd8e0; padding: .2em .7em; text-align: right; }
-.picture { overflow: auto; border: 1px solid #cfd8e0; max-height: 90vh; margin: .6em 0; } .whole { border: 1px solid #cfd8e0; }
+.picture { overflow: auto; border: 1px solid #cfd8e0; margin: .6em 0; }
 pre { background: #f4f7fa; padding: .6em; overflow: auto; } .good { color: #0b7a6b; } .open { color: #b3261e; }
 </style></head><body>
 <h1>Plans of a run</h1>
@@ -163,43 +164,72 @@ def op_line(problem, f, x, y, contracted, width):
     return f"<g><title>{html.escape(f'{f} {text}')}</title>{text_at(x + 16, y, f'{f:>3}', 'number')}{text_at(x + 42, y, shown, kind)}</g>"
 
 
+class Column:
+    """A block as it is drawn: what it says, its width and height, and, once it is placed, its corner."""
+
+    def __init__(self, problem, number, block):
+        ops = [problem.op(f) for f in block]
+        self.number, self.block, self.cost = number, block, problem.block_cost(set(block))
+        self.contracted = {op.out.base for op in ops if op.makes and problem.freer.get(op.out.base) in block}
+        self.read, self.written = moved(problem, block)
+        self.note = f"reads {bytes_text(self.read)}, writes {bytes_text(self.written)}"
+        longest = max(len(op_text(op, self.contracted)) + 9 * serial(op) for op in ops)
+        self.width = min(max(NARROWEST, 60 + GLYPH * longest, 16 + GLYPH * len(self.note)), WIDEST)
+        self.height = HEAD + LINE * len(block) + PAD
+
+    def line_at(self, f):
+        """The middle of the line of an operation."""
+        return self.top + HEAD + LINE * self.block.index(f) + 6
+
+    def drawn(self, problem, most):
+        x, y, width = self.left, self.top, self.width
+        parts = [f'<rect class="box" x="{x:.0f}" y="{y}" width="{width:.0f}" height="{self.height}" rx="4"/>'
+                 f'<rect class="head" x="{x:.0f}" y="{y}" width="{width:.0f}" height="{HEAD - 6}" rx="4"/>',
+                 text_at(x + 8, y + 15, f"block {self.number}", "name"), text_at(x + 8 + 10 * GLYPH, y + 15, f"moves {bytes_text(self.cost)}"),
+                 text_at(x + 8, y + 30, self.note, "note")]
+        for row, (part, kind) in enumerate([(self.read, "reads"), (self.written, "writes")]):
+            parts.append(f'<rect class="{kind}" x="{x + 8:.0f}" y="{y + 38 + 6 * row}" width="{(width - 16) * part / max(most, part):.1f}" height="4"/>')
+        return "".join(parts + [op_line(problem, f, x, self.line_at(f) + 4, self.contracted, width) for f in self.block])
+
+
+def place_columns(columns):
+    """Puts the columns side by side, in as many rows as it takes. The width and height of them all."""
+    left, top, wide, tall = LEFT, PAD, 0, 0
+    for column in columns:
+        if left > LEFT and left + column.width > WIDEST_ROW:
+            left, top = LEFT, tall + GAP - PAD
+        column.left, column.top = left, top
+        left += column.width + GAP
+        wide, tall = max(wide, column.left + column.width), max(tall, top + column.height)
+    return wide + PAD, tall + PAD
+
+
+def arrow(column, f, to, g):
+    """From one operation to another that depends on it."""
+    left, y, to_left, to_y = column.left, column.line_at(f), to.left, to.line_at(g)
+    title = f"<title>{f} before {g}</title>"
+    if to is column:
+        bend = min(12, 3 + (to_y - y) // LINE)
+        return f'<path class="inner" d="M{left + 14:.0f} {y} C{left + 14 - bend:.0f} {y} {left + 14 - bend:.0f} {to_y} {left + 14:.0f} {to_y}">{title}</path>'
+    right, far = left + column.width, "" if to.number == column.number + 1 and to.top == column.top else " far"
+    return (f'<path class="arrow{far}" marker-end="url(#tip)" d="M{right:.0f} {y} C{right + 26:.0f} {y} {to_left - 26:.0f} {to_y} {to_left - 2:.0f} {to_y}">'
+            f"{title}</path>")
+
+
 def picture(flush):
     """An SVG of the blocks of a flush."""
     problem = Problem(flush.ops)
-    most = max([problem.block_cost(set(block)) for block in flush.blocks], default=0) or 1
-    boxes, place, x, height = [], {}, PAD, 0
-    for at, block in enumerate(flush.blocks, 1):
-        contracted = {problem.op(f).out.base for f in block if problem.op(f).makes and problem.freer.get(problem.op(f).out.base) in block}
-        longest = max(len(op_text(problem.op(f), contracted)) + 9 * serial(problem.op(f)) for f in block)
-        read, written = moved(problem, block)
-        note = f"reads {bytes_text(read)}, writes {bytes_text(written)}"
-        width = min(max(NARROWEST, 60 + GLYPH * longest, 16 + GLYPH * len(note)), WIDEST)
-        tall = HEAD + LINE * len(block) + PAD
-        boxes.append(f'<rect class="box" x="{x:.0f}" y="{PAD}" width="{width:.0f}" height="{tall}" rx="4"/>'
-                     f'<rect class="head" x="{x:.0f}" y="{PAD}" width="{width:.0f}" height="{HEAD - 6}" rx="4"/>')
-        boxes += [text_at(x + 8, PAD + 15, f"block {at}", "name"), text_at(x + 8 + 9 * GLYPH, PAD + 15, f"moves {bytes_text(problem.block_cost(set(block)))}"),
-                  text_at(x + 8, PAD + 30, note, "note")]
-        for row, (part, kind) in enumerate([(read, "reads"), (written, "writes")]):
-            boxes.append(f'<rect class="{kind}" x="{x + 8:.0f}" y="{PAD + 38 + 6 * row}" width="{(width - 16) * part / max(most, part):.1f}" height="4"/>')
-        for row, f in enumerate(block):
-            y = PAD + HEAD + LINE * row + 10
-            place[f] = (x, x + width, y - 4, at, row)
-            boxes.append(op_line(problem, f, x, y, contracted, width))
-        x, height = x + width + GAP, max(height, tall)
-    arrows = []
-    for f, g in needed_pairs(problem):
-        (left, right, y, at, row), (to_left, _, to_y, to_at, to_row) = place[f], place[g]
-        if at != to_at:
-            far = " far" if to_at > at + 1 else ""
-            arrows.append(f'<path class="arrow{far}" marker-end="url(#tip)" d="M{right:.0f} {y} C{right + 26:.0f} {y} {to_left - 26:.0f} {to_y} {to_left - 2:.0f} {to_y}"/>')
-        else:
-            bend = min(12, 3 + (to_row - row))
-            boxes.append(f'<path class="inner" d="M{left + 14:.0f} {y} C{left + 14 - bend:.0f} {y} {left + 14 - bend:.0f} {to_y} {left + 14:.0f} {to_y}"/>')
-    wide, tall = max(x - GAP + PAD, 2 * PAD), height + 2 * PAD
-    return (f'<svg xmlns="http://www.w3.org/2000/svg" id="flush{flush.number}" width="{wide:.0f}" height="{tall}" viewBox="0 0 {wide:.0f} {tall}">'
-            f"<style>{STYLE}</style><defs><marker id=\"tip\" viewBox=\"0 0 8 8\" refX=\"7\" refY=\"4\" markerWidth=\"7\" markerHeight=\"7\" orient=\"auto\">"
-            f'<path d="M0 0L8 4L0 8z" fill="#5b7fa6"/></marker></defs><rect width="{wide:.0f}" height="{tall}" fill="#f8fafc"/>'
-            + "".join(arrows) + "".join(boxes) + "</svg>"), wide
+    columns = [Column(problem, number, block) for number, block in enumerate(flush.blocks, 1)]
+    wide, tall = place_columns(columns)
+    most = max([column.cost for column in columns], default=0) or 1
+    of = {f: column for column in columns for f in column.block}
+    pairs = needed_pairs(problem)
+    arrows = [arrow(of[f], f, of[g], g) for f, g in pairs if of[f] is not of[g]]
+    inner = [arrow(of[f], f, of[g], g) for f, g in pairs if of[f] is of[g]]
+    return (f'<svg xmlns="http://www.w3.org/2000/svg" width="{wide:.0f}" height="{tall}" viewBox="0 0 {wide:.0f} {tall}">'
+            f'<style>{STYLE}</style><defs><marker id="tip" viewBox="0 0 8 8" refX="7" refY="4" markerWidth="7" markerHeight="7" orient="auto">'
+            f'<path d="M0 0L8 4L0 8z" fill="#5b7fa6"/></marker></defs><rect width="{wide:.0f}" height="{tall}" fill="#f8fafc"/>\n'
+            + "\n".join(arrows + [column.drawn(problem, most) for column in columns] + inner) + "</svg>")
 
 
 # ---- a certificate
@@ -249,11 +279,7 @@ def row_of(flush):
 
 
 def section_of(flush):
-    drawn, wide = picture(flush)
-    parts = [f'<h2>Flush {flush.number}</h2>\n<div class="picture">{drawn}</div>\n']
-    if wide > 1300:
-        height = 260
-        parts.append(f'<p>All of it:</p><svg class="whole" width="100%" height="{height}" viewBox="{re.search("viewBox=.([^>]*?).>", drawn)[1]}"><use href="#flush{flush.number}"/></svg>\n')
+    parts = [f'<h2>Flush {flush.number}</h2>\n<div class="picture">{picture(flush)}</div>\n']
     if flush.arrays:
         heads = [clipped(array[0], MOST_HEAD) + "\n" + "".join("  " + clipped(line, MOST_HEAD) + "\n" for line in array[1:3]) + ("  …\n" if len(array) > 3 else "")
                  for array in flush.arrays]
@@ -266,7 +292,7 @@ def section_of(flush):
 def page_of(flushes):
     heads = ["flush", "recorded", "rewritten", "blocks", "bytes moved", "one operation at a time", "less by", "bound"]
     table = "<table><tr>" + "".join(f"<th>{head}</th>" for head in heads) + "</tr>\n" + "".join(map(row_of, flushes)) + "</table>\n"
-    legend = ("<p>A column is a block, and blocks run from left to right. In a block operations run from top to bottom. An arrow goes from an operation to one "
+    legend = ("<p>A column is a block, and blocks run from left to right, row by row. In a block operations run from top to bottom. An arrow goes from an operation to one "
               "that depends on it; those that follow from others are left out. <b style=\"color:#0b7a6b\">b3°</b> is contracted: made and freed in the block, "
               "without a buffer. Bars show <span style=\"color:#3b7dd8\">bytes read</span> and <span style=\"color:#d9822b\">bytes written</span>; a view that is "
               "both is moved once.</p>\n")
@@ -281,7 +307,7 @@ def main(words):
     if not flushes:
         sys.exit("usage: report.py [--svg=N] [LISTING], where the listing is of `bohrium run --plan`")
     if only is not None:
-        print(picture(next(flush for flush in flushes if flush.number == only))[0])
+        print(picture(next(flush for flush in flushes if flush.number == only)))
     else:
         sys.stdout.write(page_of(flushes))
 
