@@ -267,7 +267,8 @@ def bound_text(flush):
     if not flush.bound:
         return "no bound is listed"
     bound, units, word = flush.bound
-    return f'<span class="{"good" if word == "optimal" else "open"}">{"proved optimal" if word == "optimal" else "budget spent"}</span>: bound {bytes_text(int(bound))}, {units} units'
+    kind, said = ("good", "proved optimal") if word == "optimal" else ("open", "budget spent")
+    return f'<span class="{kind}">{said}</span>: bound {bytes_text(int(bound))}, {units} units'
 
 
 def row_of(flush):
@@ -281,8 +282,7 @@ def row_of(flush):
 def section_of(flush):
     parts = [f'<h2>Flush {flush.number}</h2>\n<div class="picture">{picture(flush)}</div>\n']
     if flush.arrays:
-        heads = [clipped(array[0], MOST_HEAD) + "\n" + "".join("  " + clipped(line, MOST_HEAD) + "\n" for line in array[1:3]) + ("  …\n" if len(array) > 3 else "")
-                 for array in flush.arrays]
+        heads = ["\n  ".join(clipped(line, MOST_HEAD) for line in array[:3]) + ("\n  …\n" if len(array) > 3 else "\n") for array in flush.arrays]
         parts.append(f"<h3>Arrays</h3><pre>{html.escape(''.join(heads))}</pre>\n")
     if flush.proof:
         parts.append(f"<h3>Certificate</h3><pre>{html.escape(proof_text(flush))}</pre>\n")
