@@ -49,7 +49,8 @@ class Writer:
 
     def literal(self, elem):
         low, high = least(elem), greatest(elem)
-        return self.random.choice([0, 1, 1, 2, 2, 3, 5, 7, 8, 31, 32, 63, 64, max(-1, low), max(-2, low), max(-7, low), low, high, self.random.randint(low, high)])
+        few = [0, 1, 1, 2, 2, 3, 5, 7, 8, 31, 32, 63, 64, low, high, *(max(number, low) for number in (-1, -2, -7))]
+        return self.random.choice(few + [self.random.randint(low, high)])
 
     def shape(self):
         shapes = [value.view.shape for value in self.steps.names.values()]
@@ -124,7 +125,8 @@ class Writer:
         if depth == 0:
             return self.fitted(elem, shape)
         return self.pick(
-            (3, lambda: self.fitted(elem, shape)), (9, lambda: self.binary(elem, shape, depth - 1)), (1, lambda: f"~{self.bracketed(elem, shape, depth - 1)}"),
+            (3, lambda: self.fitted(elem, shape)), (9, lambda: self.binary(elem, shape, depth - 1)),
+            (1, lambda: f"~{self.bracketed(elem, shape, depth - 1)}"),
             (1, lambda: f"abs({self.value(elem, shape, depth - 1)})"),
             (1, lambda: f"{self.bracketed(elem, shape, depth - 1)} ** {self.random.choice((0, 1, 2, 3, 5, 64, 2**64 - 1))}"),
             (2, lambda: f"{elem}({self.value(self.random.choice(ELEMS), shape, depth - 1)})"), (3, lambda: self.fold(elem, shape, depth - 1)),
