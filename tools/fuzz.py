@@ -201,6 +201,7 @@ def judge_seed(path, seed):
     program, chance = Program(path), random.Random(seed)
     script = random_scripts.Writer(seed).script(chance.choice((2, 4, 7, 12, 12, 20, 60) if seed % 50 else (150, 300))).encode()
     cases = [("run", script, run_fault), ("a damaged script", random_scripts.damaged(script.decode(), chance), run_fault)]
+    cases += [("a misused script", random_scripts.misused(script.decode(), chance), run_fault) for _ in range(3)]
     cases += [(" ".join(words), script, lambda p, s, words=words, planner=planner: plan_fault(p, s, words, planner))
               for words, planner in [(["--plan", "--fuse=linear"], "linear"), (["--plan", "--fuse=greedy"], "greedy")]]
     if program.certifies:
