@@ -3,12 +3,13 @@
 
 usage: fuzz.py [--seed=N] [--count=N] [--seconds=N] [--jobs=N] [PROGRAM]
 
-Each seed, from N on, is one script. It is run plainly and damaged; with `--plan` by each planner, where the arrays must be the same,
-and each listed plan legal for the list rewritten and its costs right; and checked against proofs by random derivations, whole and damaged.
-Where the program knows `--cert`, its certificates are checked too. A run is repeated by its seed and `--count=1`. A difference is shown
-with a script made shorter line by line. The last line is `N passed, N failed`.
+Each seed, from N on, is one script. It is run plainly and damaged; with `--plan` by each planner, where the arrays must be the same, and each
+listed plan legal for the list rewritten, its costs right, and just what the planner gives (by greedy for short lists); and it is checked against
+proofs by random derivations, whole and damaged. Where the program knows `--cert`, its certificates are checked too. A run is repeated by its
+seed and `--count=1`. A difference is shown with a script made shorter line by line. The last line is `N passed, N failed`.
 """
 import argparse
+import functools
 import multiprocessing
 import os
 import random
@@ -29,6 +30,8 @@ from steps import steps_of
 sys.setrecursionlimit(20_000)
 TOP = os.path.dirname(os.path.dirname(os.path.abspath(__file__)))
 BUDGET = 300
+# `greedy` is computed anew for lists of up to so many operations.
+MOST_GREEDY = 40
 
 
 class Program:
@@ -73,6 +76,34 @@ def linear(ops):
     return blocks
 
 
+def ordered(problem, blocks):
+    """The order of a partition, or None where it has none."""
+    order, left = [], sorted(blocks, key=min)
+    while left:
+        ready = [block for block in left if not any((f, g) in problem.before for other in left if other is not block for f in other for g in block)]
+        if not ready:
+            return None
+        order.append(ready[0])
+        left.remove(ready[0])
+    return order
+
+
+def greedy(problem):
+    """The plan of the planner `greedy`, as docs/PLANS.md defines it."""
+    cost = functools.lru_cache(maxsize=None)(problem.block_cost)
+    saving = functools.lru_cache(maxsize=None)(lambda a, b: cost(a) + cost(b) - cost(a | b))
+    blocks = [frozenset([f]) for f in problem.numbers]
+    while True:
+        pairs = [(a, b) for at, b in enumerate(blocks) for a in blocks[:at] if not any((min(f, g), max(f, g)) in problem.apart for f in a for g in b)]
+        for a, b in sorted(pairs, key=lambda pair: (-saving(*pair), min(pair[0]), min(pair[1]))):
+            merged = sorted([block for block in blocks if block not in (a, b)] + [a | b], key=min)
+            if ordered(problem, merged):
+                blocks = merged
+                break
+        else:
+            return ordered(problem, blocks)
+
+
 def listing_fault(lines, recorded, number, planner):
     """What is wrong with the plan lines of a list, or None. With certificate lines, these are left to the checker."""
     ops = rewritten(recorded)
@@ -83,7 +114,9 @@ def listing_fault(lines, recorded, number, planner):
     wanted += [f"# op {f} {line_of(op)}" for f, op in enumerate(ops, 1)]
     wanted += [f"# block {at} cost {cost} ops " + " ".join(map(str, sorted(block))) for at, (cost, block) in enumerate(zip(costs, blocks), 1)]
     fault = problem.plan_fault(blocks)
-    if fault or planner == "linear" and blocks != linear(ops) or planner != "linear" and sum(costs) > sum(problem.block_cost({f}) for f in problem.numbers):
+    wrong = (planner == "linear" and blocks != linear(ops) or planner == "greedy" and len(ops) <= MOST_GREEDY and blocks != greedy(problem)
+             or planner != "linear" and sum(costs) > sum(problem.block_cost({f}) for f in problem.numbers))
+    if fault or wrong:
         return fault or f"not what {planner} gives"
     bounds = [line for line in lines if line.startswith("# bound ")]
     if lines != wanted + bounds:
@@ -168,6 +201,7 @@ def judge_seed(path, seed):
     program, chance = Program(path), random.Random(seed)
     script = random_scripts.Writer(seed).script(chance.choice((2, 4, 7, 12, 12, 20, 60) if seed % 50 else (150, 300))).encode()
     cases = [("run", script, run_fault), ("a damaged script", random_scripts.damaged(script.decode(), chance), run_fault)]
+    cases += [("a misused script", random_scripts.misused(script.decode(), chance), run_fault) for _ in range(3)]
     cases += [(" ".join(words), script, lambda p, s, words=words, planner=planner: plan_fault(p, s, words, planner))
               for words, planner in [(["--plan", "--fuse=linear"], "linear"), (["--plan", "--fuse=greedy"], "greedy")]]
     if program.certifies:

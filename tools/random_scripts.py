@@ -1,5 +1,6 @@
 """Random scripts for tools/fuzz.py: most are accepted, and their views overlap often. And damaged ones."""
 import random
+import re
 
 import reading
 from steps import Steps, count, greatest, least
@@ -9,6 +10,10 @@ SIGNS = ("+", "+", "-", "*", "*", "/", "%", "&", "|", "^", "<<", ">>")
 COMPARED = ("==", "!=", "<", "<=", ">", ">=")
 FOLDS = ("sum", "prod", "min", "max")
 NAMES = "abcdefgh"
+WRONG_NUMBERS = ("0", "1", "2", "3", "4", "6", "9", "-1", "-2", "255", "256", "-129", "2147483648", "-2147483649", "1048576", "1048577", "9223372036854775808",
+                 "18446744073709551615")
+WRONG_SLICES = ("[:]", "[::0]", "[::-1]", "[9:]", "[:9]", "[2:1]", "[1:1]", "[:,:]", "[:,:,:,:,:]", "[0]", "[2]", "[2,3]", "[1,1,1,1,1]", "[3,0]", "[1024,1025]",
+                "[-1]", "[1:4:2]", ":", "::2")
 PIECES = ("print", "del", "flush", "range", "(", ")", "[", "]", ",", ":", "=", "**", "<", "~", "-", "0", "1", "7", "a", "b", "\n", "#", "\r", "gather",
           "scatter", "u8", "99999999999999999999", "18446744073709551615", "sum", "transpose", "?", "\x80", "!", "18446744073709551616", "00")
 
@@ -49,7 +54,8 @@ class Writer:
 
     def literal(self, elem):
         low, high = least(elem), greatest(elem)
-        return self.random.choice([0, 1, 1, 2, 2, 3, 5, 7, 8, 31, 32, 63, 64, max(-1, low), max(-2, low), max(-7, low), low, high, self.random.randint(low, high)])
+        few = [0, 1, 1, 2, 2, 3, 5, 7, 8, 31, 32, 63, 64, low, high, *(max(number, low) for number in (-1, -2, -7))]
+        return self.random.choice(few + [self.random.randint(low, high)])
 
     def shape(self):
         shapes = [value.view.shape for value in self.steps.names.values()]
@@ -124,7 +130,8 @@ class Writer:
         if depth == 0:
             return self.fitted(elem, shape)
         return self.pick(
-            (3, lambda: self.fitted(elem, shape)), (9, lambda: self.binary(elem, shape, depth - 1)), (1, lambda: f"~{self.bracketed(elem, shape, depth - 1)}"),
+            (3, lambda: self.fitted(elem, shape)), (9, lambda: self.binary(elem, shape, depth - 1)),
+            (1, lambda: f"~{self.bracketed(elem, shape, depth - 1)}"),
             (1, lambda: f"abs({self.value(elem, shape, depth - 1)})"),
             (1, lambda: f"{self.bracketed(elem, shape, depth - 1)} ** {self.random.choice((0, 1, 2, 3, 5, 64, 2**64 - 1))}"),
             (2, lambda: f"{elem}({self.value(self.random.choice(ELEMS), shape, depth - 1)})"), (3, lambda: self.fold(elem, shape, depth - 1)),
@@ -195,6 +202,19 @@ class Writer:
         text, _, elem = self.target()
         shape = self.shape()
         return f"scatter({text}, {self.value(self.random.choice(ELEMS), shape, 1)}, {self.value(elem, shape, 1)})"
+
+
+def misused(script, chance):
+    """The script with some numbers, names, types and strides changed for others, so that it mostly keeps to the grammar."""
+    for _ in range(chance.choice((1, 2, 4))):
+        tokens = [token for token in re.finditer(r"-?[0-9]+|\b(?:[a-h]|u8|i32|i64|u64)\b|:|\[[^]]*\]", script)]
+        if tokens:
+            token = chance.choice(tokens)
+            name = "".join(chance.choices(NAMES + "q"))
+            kinds = [(NAMES, (name, name + chance.choice(WRONG_SLICES))), (ELEMS, ELEMS), (token[0] if token[0][0] in ":[" else (), WRONG_SLICES)]
+            choices = next((choices for tokens, choices in kinds if token[0] in tokens), WRONG_NUMBERS)
+            script = script[:token.start()] + chance.choice(choices) + script[token.end():]
+    return script.encode("latin-1")
 
 
 def damaged(script, chance):

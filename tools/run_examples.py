@@ -21,6 +21,7 @@ import sys
 import tempfile
 
 import cases
+import report
 
 TOP = os.path.dirname(os.path.dirname(os.path.abspath(__file__)))
 PROGRAM = os.path.join(TOP, "crates", "bohrium", "out", "bohrium")
@@ -175,6 +176,12 @@ def judge_checks():
         judge("cases: no proof", (3, ""), run(cases.CHECKED, ("check", path + "s")))
 
 
+def judge_picture():
+    """The picture of the README is what tools/report.py draws of the first flush of the example."""
+    with open(os.path.join(TOP, "examples", "fused.out")) as listing, open(os.path.join(TOP, "docs", "plan.svg")) as drawn:
+        judge("docs/plan.svg", drawn.read(), report.picture(report.read_listing(listing.read().split("\n"))[0]) + "\n")
+
+
 def judge_cases():
     for script, wanted in cases.ARRAYS + cases.REFUSALS + cases.SLICES + cases.TEXTS + cases.LIMITS:
         judge_script(f"cases: {script[:200]!r}", script, wanted)
@@ -194,6 +201,7 @@ def main():
         return 1
     judge_examples()
     judge_cases()
+    judge_picture()
     for page in PAGES:
         judge_page(page)
     print(f"{passed} passed, {failed} failed")
