@@ -1,12 +1,11 @@
 -- What becomes of a search at a node.
-use Rattle.std.proofs.Common.{◌≡◌, ℕ, zero, suc, ◌+◌, ◌-◌, ◌<◌, ◌≤◌, List, [], ◌∷◌, ◌++◌, length, Bool, true, false, cond, not, ◌&&◌, ◌⊎◌, inl, inr, Option, Some, None, refl, sym, ap, ap₂, ◌∙◌, subst, arith, ⊎_elim, append-nil, min}
+use Rattle.std.proofs.Common.{◌≡◌, ℕ, zero, suc, ◌+◌, ◌-◌, ◌<◌, ◌≤◌, List, [], ◌∷◌, ◌++◌, length, Bool, true, false, cond, not, ◌&&◌, ◌⊎◌, inl, inr, Option, Some, None, refl, sym, ap, ◌∙◌, subst, arith, ⊎_elim, append-nil, min}
 use Rattle.std.specs.Prelude.{nat_lt, IsTrue, IfOk, MatchOption, Result, Ok, Err}
 use Rattle.std.specs.List.{list_all}
 use Rattle.std.proofs.lemmas.Bool.{and_parts, and_from, ltb-true}
 use Rattle.std.proofs.lemmas.List.Sums.{fold_push, sum_by-cons}
 use Rattle.std.proofs.lemmas.List.Folds.{list_all-append}
 use Rattle.arr_ops.specs.declared.op.Op.{Op}
-use Rattle.arr_ops.specs.Formed.{is_formed}
 use Rattle.arr_ops.specs.Plans.{is_legal}
 use Rattle.arr_ops.specs.Costs.{cost}
 use Rattle.arr_law.specs.declared.charge.Charge.{Charge}
@@ -16,30 +15,27 @@ use Rattle.arr_law.specs.declared.record.Record.{Record}
 use Rattle.arr_law.specs.declared.record.Record.TheVariants.{Branch, Dead, Worth}
 use Rattle.arr_law.specs.Problem.{Problem, is_op}
 use Rattle.arr_law.specs.Facts.{Facts, with_fact, root_facts, facts_of}
-use Rattle.arr_law.specs.Floor.{IsClosed, IsSymmetric, Within, floor}
-use Rattle.arr_law.specs.Leaves.{is_leaf, worth}
+use Rattle.arr_law.specs.Floor.{IsClosed, Within, floor}
 use Rattle.arr_law.specs.ProblemOf.{problem_of}
 use Rattle.arr_law.specs.Trees.{may_branch}
 use Rattle.arr_bound.specs.Worth.{IsLargeLeaf}
 use Rattle.arr_heur.specs.Planners.{greedy_plan}
 use Rattle.arr_state.specs.declared.outcome.Outcome.{Outcome}
-use Rattle.arr_state.specs.declared.outcome.Outcome.TheVariants.{Closed, Contradiction, Spent}
 use Rattle.arr_state.specs.Known.{after, AreOps}
-use Rattle.arr_state.specs.States.{Ends, Saturated, Standing, known}
-use Rattle.arr_state.specs.Steps.{Steps}
+use Rattle.arr_state.specs.States.{Saturated, Standing, known}
 use Rattle.arr_state.specs.Went.{CanGoOn, IsClash}
 use Rattle.arr_state.proofs.Wents.{facts_after, after_grows}
 use Rattle.arr_search.specs.declared.progress.Next.{Next}
 use Rattle.arr_search.specs.declared.progress.Next.TheVariants.{Split, Close}
 use Rattle.arr_search.specs.declared.progress.Progress.{Progress}
 use Rattle.arr_search.specs.Counts.{is_open, open_pairs}
-use Rattle.arr_search.specs.Steps.{Pays, IsPlain}
-use Rattle.arr_search.specs.Running.{size, nodes, Running, IsAmple, IsReady}
+use Rattle.arr_search.specs.Steps.{Pays}
+use Rattle.arr_search.specs.Running.{size, nodes, Running}
 use Rattle.arr_search.specs.Nodes.{IsDecided, IsNode, IsPlanned, IsSearch, is_written, next_pending}
 use Rattle.arr_search.specs.Turns.{Advanced, Stands, Settled, Worked}
 use Rattle.arr_search.proofs.Counts.{open-le, with_within}
 use Rattle.arr_search.proofs.Stepped.{Stepped, stepped, none, symmetric-with, plain-with}
-use Rattle.arr_search.proofs.Running.{size-le, branched, ended, leafed, cheapened, at_ready, fewer_same, fewer_apart}
+use Rattle.arr_search.proofs.Running.{size-le, branched, ended, leafed, at_ready, fewer_same, fewer_apart}
 use Rattle.arr_search.proofs.Lists.{plans_pay}
 use Rattle.arr_search.proofs.Written.{steps_written, leaf_written, dead_written, branch_written}
 

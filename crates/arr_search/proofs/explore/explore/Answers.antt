@@ -1,4 +1,4 @@
-use Rattle.std.proofs.Common.{◌≡◌, ◌∙◌, ℕ, List, [], ◌∷◌, ◌++◌, take, ap, refl, sym, subst}
+use Rattle.std.proofs.Common.{◌≡◌, ◌∙◌, [], ◌∷◌, ◌++◌, take, ap, refl, sym, subst}
 use Rattle.arr_law.specs.declared.fact.Fact.TheVariants.{Same, Apart}
 use Rattle.arr_law.specs.Facts.{Facts, facts_of}
 use Rattle.arr_law.specs.Problem.{Problem}
@@ -6,7 +6,7 @@ use Rattle.arr_law.specs.ProblemOf.{problem_of}
 use Rattle.arr_search.specs.declared.progress.Next.TheVariants.{Split, Close}
 use Rattle.arr_search.specs.Nodes.{IsNode}
 use Rattle.arr_search.proofs.Nodes.{known_at}
-use Rattle.arr_search.proofs.Waits.{start_at, next_node, none_left, open_here, open_there, mark_within, pair_of, turn_split, turn_close, turn_last}
+use Rattle.arr_search.proofs.Waits.{start_at, next_node, none_left, open_here, open_there, pair_of, turn_split, turn_close, turn_last}
 use Rattle.arr_search.proofs.explore.explore.Goals as goal
 
 pub loop-candidates-init : goal.loop-candidates-init

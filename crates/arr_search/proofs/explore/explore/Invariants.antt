@@ -1,4 +1,4 @@
-use Rattle.std.proofs.Common.{◌≡◌, ◌≤◌, length, reverse}
+use Rattle.std.proofs.Common.{◌≡◌, length, reverse}
 use Rattle.arr_law.specs.ProblemOf.{problem_of}
 use Rattle.arr_search.specs.Nodes.{IsSearch}
 use Rattle.arr_search.specs.Running.{nodes}

@@ -1,4 +1,4 @@
-use Rattle.std.proofs.Common.{◌≡◌, ◌∙◌, List, sym}
+use Rattle.std.proofs.Common.{◌∙◌, sym}
 use Rattle.arr_law.specs.ProblemOf.{problem_of}
 use Rattle.arr_state.specs.States.{known}
 use Rattle.arr_search.specs.Nodes.{IsNode}

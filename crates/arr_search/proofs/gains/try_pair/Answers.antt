@@ -1,9 +1,8 @@
-use Rattle.std.proofs.Common.{◌≡◌, ◌∙◌, ap, sym, subst, true}
-use Rattle.std.specs.Prelude.{MatchOption}
+use Rattle.std.proofs.Common.{◌≡◌, sym, subst, true}
 use Rattle.arr_law.specs.ProblemOf.{problem_of}
 use Rattle.arr_law.specs.Trees.{may_branch}
 use Rattle.arr_state.specs.States.{Standing, known}
-use Rattle.arr_search.specs.Nodes.{IsDecided, IsNode}
+use Rattle.arr_search.specs.Nodes.{IsNode}
 use Rattle.arr_search.proofs.gains.try_pair.Goals as goal
 
 pub side_worth-requires-2-clause-node : goal.side_worth-requires-2-clause-node

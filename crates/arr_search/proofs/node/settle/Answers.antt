@@ -1,4 +1,4 @@
-use Rattle.std.proofs.Common.{◌≡◌, ◌≤◌, ◌<◌, ℕ, List, sym, subst, arith}
+use Rattle.std.proofs.Common.{◌<◌, List, sym, subst, arith}
 use Rattle.arr_ops.specs.declared.op.Op.{Op}
 use Rattle.arr_law.specs.ProblemOf.{problem_of}
 use Rattle.arr_bound.specs.Worth.{IsLargeLeaf}

@@ -1,8 +1,8 @@
-use Rattle.std.proofs.Common.{◌≡◌, ◌≤◌, ◌<◌, ◌-◌, ◌∙◌, ℕ, List, length, sym, subst, arith}
+use Rattle.std.proofs.Common.{◌≡◌, ◌<◌, ◌-◌, ◌∙◌, ℕ, List, length, sym, subst, arith}
 use Rattle.std.proofs.lemmas.Result.{IfOk-weaker}
 use Rattle.arr_ops.specs.declared.op.Op.{Op}
 use Rattle.arr_law.specs.declared.fact.Fact.TheVariants.{Same}
-use Rattle.arr_law.specs.Facts.{Facts, facts_of}
+use Rattle.arr_law.specs.Facts.{facts_of}
 use Rattle.arr_law.specs.Floor.{floor}
 use Rattle.arr_law.specs.Problem.{Problem}
 use Rattle.arr_law.specs.ProblemOf.{problem_of}

@@ -1,9 +1,7 @@
-use Rattle.std.proofs.Common.{◌≡◌, ◌∙◌, ap, sym, subst, true}
-use Rattle.std.specs.Prelude.{MatchOption}
+use Rattle.std.proofs.Common.{sym, subst}
 use Rattle.arr_law.specs.ProblemOf.{problem_of}
-use Rattle.arr_law.specs.Trees.{may_branch}
 use Rattle.arr_state.specs.States.{Standing, known}
-use Rattle.arr_search.specs.Nodes.{IsDecided, IsNode}
+use Rattle.arr_search.specs.Nodes.{IsNode}
 use Rattle.arr_search.proofs.gains.Candidates.try_again.Goals as goal
 
 pub try_pair-requires-clause-node : goal.try_pair-requires-clause-node
