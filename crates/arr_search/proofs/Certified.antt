@@ -1,8 +1,8 @@
 -- A certificate of a legal plan by its places: nothing is wrong with the plan, its price is its cost, and the bound holds.
-use Rattle.std.proofs.Common.{◌≡◌, ℕ, zero, suc, ◌+◌, ◌-◌, ◌<◌, ◌≤◌, List, [], ◌∷◌, ◌++◌, length, get_or, map, Bool, true, false, cond, not, ◌&&◌, ◌||◌, Option, Some, None, inl, inr, refl, sym, ap, ap₂, ◌∙◌, subst, arith, max}
-use Rattle.std.specs.Prelude.{◌==◌, nat_le, nat_lt, IsTrue}
-use Rattle.std.specs.List.{list_all, list_any, filter, fold, range_with_len, AllByRecursion}
-use Rattle.std.proofs.lemmas.Bool.{and_parts, and_from, or_left, or_right, true≢false, not-true, eqb-true, eq-eqb, le-leb, leb-true, ne_eqb, eqb-false}
+use Rattle.std.proofs.Common.{◌≡◌, ℕ, zero, suc, ◌+◌, ◌-◌, ◌<◌, ◌≤◌, List, [], ◌∷◌, length, get_or, map, Bool, true, cond, not, ◌&&◌, ◌||◌, Option, Some, None, inl, inr, refl, sym, ap, ap₂, ◌∙◌, arith, max}
+use Rattle.std.specs.Prelude.{◌==◌, nat_le, IsTrue}
+use Rattle.std.specs.List.{list_all, list_any, fold, range_with_len}
+use Rattle.std.proofs.lemmas.Bool.{and_parts, and_from, or_left, or_right, true≢false, eqb-true, eq-eqb, le-leb, leb-true, eqb-false}
 use Rattle.std.proofs.lemmas.List.FromFn.{length-map-range_with_len}
 use Rattle.arr_view.specs.Views.{has}
 use Rattle.arr_ops.specs.declared.op.Op.{Op}
@@ -15,12 +15,12 @@ use Rattle.arr_ops.proofs.Members.{has_least, all_in}
 use Rattle.arr_ops.proofs.Legality.{IsPartition, legal_partition}
 use Rattle.arr_law.specs.declared.reject.Reject.TheVariants.{BadPlan, NotFusible, Backward}
 use Rattle.arr_law.specs.Problem.{Problem, is_op, is_pair, operations, sum_below}
-use Rattle.arr_law.specs.Plans.{IsLegalAt, are_places, is_together, is_forward, each_pair, greatest, outside_at, charged_at, cost_at, place_in, price}
+use Rattle.arr_law.specs.Plans.{are_places, is_together, is_forward, greatest, outside_at, charged_at, cost_at, place_in, price}
 use Rattle.arr_law.specs.ProblemOf.{problem_of}
 use Rattle.arr_law.specs.Trees.{unless, or_else}
 use Rattle.arr_law.specs.Verdict.{plan_fault}
 use Rattle.arr_law.proofs.Agrees.{agrees, stands_at, holders_place}
-use Rattle.arr_law.proofs.Members.{op_range, op_from, pair_ops, ops_are, has_ops, has_range, any_of}
+use Rattle.arr_law.proofs.Members.{op_range, pair_ops, ops_are}
 use Rattle.arr_law.proofs.Proper.{first_passes}
 use Rattle.arr_law.proofs.Sums.{sum_below-same}
 use Rattle.arr_search.specs.Best.{places_of}

@@ -1,12 +1,11 @@
 -- What becomes of a search at a node.
-use Rattle.std.proofs.Common.{◌≡◌, ℕ, zero, suc, ◌+◌, ◌-◌, ◌<◌, ◌≤◌, List, [], ◌∷◌, ◌++◌, length, Bool, true, false, not, ◌&&◌, ◌⊎◌, inl, inr, refl, sym, ap, ap₂, ◌∙◌, subst, arith, ⊎_elim, append-nil, min}
-use Rattle.std.specs.Prelude.{nat_lt, IsTrue}
+use Rattle.std.proofs.Common.{◌≡◌, ℕ, zero, suc, ◌+◌, ◌-◌, ◌<◌, ◌≤◌, List, [], ◌∷◌, ◌++◌, length, Bool, true, false, cond, not, ◌&&◌, ◌⊎◌, inl, inr, Option, Some, None, refl, sym, ap, ◌∙◌, subst, arith, ⊎_elim, append-nil, min}
+use Rattle.std.specs.Prelude.{nat_lt, IsTrue, IfOk, MatchOption, Result, Ok, Err}
 use Rattle.std.specs.List.{list_all}
-use Rattle.std.proofs.lemmas.Bool.{and_parts, and_from}
-use Rattle.std.proofs.lemmas.List.Sums.{sum_by-cons}
+use Rattle.std.proofs.lemmas.Bool.{and_parts, and_from, ltb-true}
+use Rattle.std.proofs.lemmas.List.Sums.{fold_push, sum_by-cons}
 use Rattle.std.proofs.lemmas.List.Folds.{list_all-append}
 use Rattle.arr_ops.specs.declared.op.Op.{Op}
-use Rattle.arr_ops.specs.Formed.{is_formed}
 use Rattle.arr_ops.specs.Plans.{is_legal}
 use Rattle.arr_ops.specs.Costs.{cost}
 use Rattle.arr_law.specs.declared.charge.Charge.{Charge}
@@ -16,30 +15,27 @@ use Rattle.arr_law.specs.declared.record.Record.{Record}
 use Rattle.arr_law.specs.declared.record.Record.TheVariants.{Branch, Dead, Worth}
 use Rattle.arr_law.specs.Problem.{Problem, is_op}
 use Rattle.arr_law.specs.Facts.{Facts, with_fact, root_facts, facts_of}
-use Rattle.arr_law.specs.Floor.{IsClosed, IsSymmetric, Within, floor}
-use Rattle.arr_law.specs.Leaves.{is_leaf, worth}
+use Rattle.arr_law.specs.Floor.{IsClosed, Within, floor}
 use Rattle.arr_law.specs.ProblemOf.{problem_of}
 use Rattle.arr_law.specs.Trees.{may_branch}
 use Rattle.arr_bound.specs.Worth.{IsLargeLeaf}
 use Rattle.arr_heur.specs.Planners.{greedy_plan}
 use Rattle.arr_state.specs.declared.outcome.Outcome.{Outcome}
-use Rattle.arr_state.specs.declared.outcome.Outcome.TheVariants.{Closed, Contradiction, Spent}
 use Rattle.arr_state.specs.Known.{after, AreOps}
-use Rattle.arr_state.specs.States.{Ends, Saturated, Standing, known}
-use Rattle.arr_state.specs.Steps.{Steps}
+use Rattle.arr_state.specs.States.{Saturated, Standing, known}
 use Rattle.arr_state.specs.Went.{CanGoOn, IsClash}
 use Rattle.arr_state.proofs.Wents.{facts_after, after_grows}
 use Rattle.arr_search.specs.declared.progress.Next.{Next}
 use Rattle.arr_search.specs.declared.progress.Next.TheVariants.{Split, Close}
 use Rattle.arr_search.specs.declared.progress.Progress.{Progress}
 use Rattle.arr_search.specs.Counts.{is_open, open_pairs}
-use Rattle.arr_search.specs.Steps.{Pays, IsPlain}
-use Rattle.arr_search.specs.Running.{size, nodes, Running, IsAmple, IsReady}
-use Rattle.arr_search.specs.Nodes.{IsNode, IsPlanned, IsSearch, is_written, next_pending}
+use Rattle.arr_search.specs.Steps.{Pays}
+use Rattle.arr_search.specs.Running.{size, nodes, Running}
+use Rattle.arr_search.specs.Nodes.{IsDecided, IsNode, IsPlanned, IsSearch, is_written, next_pending}
 use Rattle.arr_search.specs.Turns.{Advanced, Stands, Settled, Worked}
-use Rattle.arr_search.proofs.Counts.{open-le}
-use Rattle.arr_search.proofs.Stepped.{Stepped, stepped, none}
-use Rattle.arr_search.proofs.Running.{size-le, branched, ended, leafed, cheapened, at_ready, fewer_same, fewer_apart}
+use Rattle.arr_search.proofs.Counts.{open-le, with_within}
+use Rattle.arr_search.proofs.Stepped.{Stepped, stepped, none, symmetric-with, plain-with}
+use Rattle.arr_search.proofs.Running.{size-le, branched, ended, leafed, at_ready, fewer_same, fewer_apart}
 use Rattle.arr_search.proofs.Lists.{plans_pay}
 use Rattle.arr_search.proofs.Written.{steps_written, leaf_written, dead_written, branch_written}
 
@@ -304,3 +300,45 @@ leaf_at_state list views s value groups v e h =
 
 pub about_at : (list : List Op) (s : Standing) → s.list ≡ list → ((x : Fact) → IsTrue (known s x) → AreOps (problem_of s.list) x) → (x : Fact) → IsTrue (facts_of (problem_of list) s.trail x) → AreOps (problem_of list) x
 about_at list s e h = subst (λ (l : List Op). (x : Fact) → IsTrue (facts_of (problem_of l) s.trail x) → AreOps (problem_of l) x) e h
+
+-- ---- a side that is tried
+
+pub tried_node : (problem : Problem) (facts : Facts) (f g : ℕ) (same : Bool) → IsNode problem facts → may_branch problem facts f g ≡ true → IsNode problem (with_fact (cond same (Same f g) (Apart f g)) facts)
+tried_node problem facts f g true node e =
+    record { roots = λ x k. with_within facts (Same f g) x (node.roots x k); even = symmetric-with facts (Same f g) node.even; plain = node.plain }
+tried_node problem facts f g false node e =
+    let p = branch_parts problem facts f g e in
+    record {
+      roots = λ x k. with_within facts (Apart f g) x (node.roots x k);
+      even = symmetric-with facts (Apart f g) node.even;
+      plain = plain-with facts f g (λ same. let l : f < g = ltb-true f g p.2 in absurd (omega arith)) node.plain;
+    }
+
+pub saturated_node : (problem : Problem) (budget : ℕ) (trail trail' : List Fact) (tree tree' : List Record) (outcome : Outcome) → Saturated problem budget trail trail' tree tree' outcome → IsNode problem (facts_of problem trail) → IsNode problem (facts_of problem trail')
+saturated_node problem budget trail trail' tree tree' outcome s node =
+    let F : Facts = facts_of problem trail in
+    let done : Stepped problem F (facts_of problem trail') s.steps = subst (λ G. Stepped problem F G s.steps) (sym (facts_after problem trail trail' s.gives s.trail_is)) (stepped problem F s.steps s.gives s.are_steps) in
+    record { roots = λ x e. done.grows x (node.roots x e); even = done.symmetric node.even; plain = done.plain node.plain }
+
+-- what is known after a decision and steps
+pub side_node : (list : List Op) (s : Standing) (now : Standing) (after : Standing) (f g budget : ℕ) (same : Bool) (tree tree' : List Record) (outcome : Outcome) → s.list ≡ list → now.list ≡ s.list → after.list ≡ now.list
+    → now.trail ≡ s.trail ++ cond same (Same f g) (Apart f g) ∷ [] → Saturated (problem_of now.list) budget now.trail after.trail tree tree' outcome → IsNode (problem_of list) (known s) → may_branch (problem_of list) (known s) f g ≡ true → IsNode (problem_of list) (known after)
+side_node list s now after f g budget same tree tree' outcome here first second decided steps node free =
+    let P : Problem = problem_of list in
+    let steps' : Saturated P budget now.trail after.trail tree tree' outcome = subst (λ (l : List Op). Saturated (problem_of l) budget now.trail after.trail tree tree' outcome) (first ∙ here) steps in
+    let began : IsNode P (facts_of P s.trail) = subst (IsNode P) (known_at list s here) node in
+    let open_ : may_branch P (facts_of P s.trail) f g ≡ true = subst (λ F. may_branch P F f g ≡ true) (known_at list s here) free in
+    let side : IsNode P (facts_of P now.trail) = subst (IsNode P) (sym (ap (facts_of P) decided ∙ fold_push (λ facts x. with_fact x facts) (root_facts P) s.trail (cond same (Same f g) (Apart f g)))) (tried_node P (facts_of P s.trail) f g same began open_) in
+    subst (IsNode P) (sym (known_at list after (second ∙ (first ∙ here)))) (saturated_node P budget now.trail after.trail tree tree' outcome steps' side)
+
+-- ---- a pair that is picked, or none
+
+pub none_picked : (problem : Problem) (facts : Facts) (o : Option (ℕ × ℕ)) → MatchOption o (IsDecided problem facts) (λ p. may_branch problem facts p.0 p.1 ≡ true) → o ≡ None → IsDecided problem facts
+none_picked problem facts o h e = subst (λ q. MatchOption q (IsDecided problem facts) (λ p. may_branch problem facts p.0 p.1 ≡ true)) e h
+
+pub some_picked : (problem : Problem) (facts : Facts) (o : Option (ℕ × ℕ)) (f g : ℕ) → MatchOption o (IsDecided problem facts) (λ p. may_branch problem facts p.0 p.1 ≡ true) → o ≡ Some (f, g) → may_branch problem facts f g ≡ true
+some_picked problem facts o f g h e = subst (λ q. MatchOption q (IsDecided problem facts) (λ p. may_branch problem facts p.0 p.1 ≡ true)) e h
+
+pub ok_both : {A E : Type 0} (r : Result A E) (P Q : A → Type 0) → IfOk r P → IfOk r Q → IfOk r (λ x. P x × Q x)
+ok_both (Ok x) P Q p q = (p, q)
+ok_both (Err e) P Q p q = tt

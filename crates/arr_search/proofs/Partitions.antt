@@ -1,18 +1,17 @@
 -- The operations with each label are a partition, and a plan of them shares a block where labels are the same.
-use Rattle.std.proofs.Common.{◌≡◌, ◌≢◌, ℕ, zero, suc, ◌+◌, ◌-◌, ◌<◌, ◌≤◌, List, [], ◌∷◌, length, get_or, map, Bool, true, false, cond, not, ◌&&◌, ◌||◌, ◌⊎◌, inl, inr, Option, Some, None, refl, sym, ap, ap₂, ◌∙◌, subst, arith, ⊎_elim}
-use Rattle.std.specs.Prelude.{◌==◌, nat_le, nat_lt}
-use Rattle.std.specs.List.{All, list_all, list_any, filter, range_with_len, AllByRecursion}
+use Rattle.std.proofs.Common.{◌≡◌, ◌≢◌, ℕ, zero, suc, ◌+◌, ◌-◌, ◌<◌, ◌≤◌, List, [], ◌∷◌, length, get_or, map, Bool, true, false, cond, not, ◌&&◌, ◌||◌, inl, inr, Some, None, refl, sym, ap, ap₂, ◌∙◌, subst, arith, ⊎_elim}
+use Rattle.std.specs.Prelude.{◌==◌}
+use Rattle.std.specs.List.{All, filter, range_with_len}
 use Rattle.std.proofs.lemmas.List.Elements.{All-from_recursion}
 use Rattle.std.specs.List.Sorted.{IsPermutation}
-use Rattle.std.proofs.lemmas.Bool.{and_parts, and_from, or_left, or_right, true≢false, not-true, eqb-true, eqb-false, eq-eqb, ne_eqb, cases_eq, cases_lt, lt-ltb}
+use Rattle.std.proofs.lemmas.Bool.{true≢false, not-true, eqb-true, eq-eqb, ne_eqb, cases_eq, cases_lt, lt-ltb}
 use Rattle.arr_view.specs.Views.{has}
 use Rattle.arr_ops.specs.declared.op.Op.{Op}
 use Rattle.arr_ops.specs.Ops.{fusible}
 use Rattle.arr_ops.specs.Plans.{ascends, holders, not_empty, place, numbered, is_legal}
 use Rattle.arr_ops.specs.Order.{In, ordered, each_fusible}
-use Rattle.arr_ops.proofs.Pairs.{Pairs}
 use Rattle.arr_ops.proofs.Tests.{or_cases}
-use Rattle.arr_ops.proofs.Members.{in_filter, in_permutation, held, holder_of, in_all}
+use Rattle.arr_ops.proofs.Members.{in_filter, in_permutation, in_all}
 use Rattle.arr_ops.proofs.Legality.{IsPartition, Share, has_in, partition_permutation}
 use Rattle.arr_ops.proofs.Orders.{each_whole, order_legal}
 use Rattle.arr_heur.specs.Partitions.{block_in}
@@ -20,12 +19,11 @@ use Rattle.arr_heur.proofs.Merge.{in_map}
 use Rattle.arr_heur.proofs.OrderedBlocks.{Told, all_told}
 use Rattle.arr_heur.proofs.LinearPlan.{pairs_in}
 use Rattle.arr_deps.specs.Graph.{op_at, nothing}
-use Rattle.arr_law.specs.Problem.{Problem, is_op, is_pair, operations}
+use Rattle.arr_law.specs.Problem.{Problem, is_pair}
 use Rattle.arr_law.specs.Plans.{is_together, place_in}
 use Rattle.arr_law.specs.ProblemOf.{problem_of}
 use Rattle.arr_law.proofs.Members.{has_filter, filter_has, range_has, has_range, at_pair, op_from, pair_from}
 use Rattle.arr_search.specs.Parts.{with_label, parts, plan_by}
-use Rattle.arr_search.proofs.Base.{by_bool}
 
 -- ---- which label an operation has
 

@@ -1,42 +1,35 @@
 -- Where nay rule gives a new fact and each pair is decided, the blocks that are known are a legal plan that costs what the leaf is worth.
-use Rattle.std.proofs.Common.{◌≡◌, ◌≢◌, ℕ, zero, suc, ◌+◌, ◌-◌, ◌<◌, ◌≤◌, List, [], ◌∷◌, length, get_or, map, Bool, true, false, cond, not, ◌&&◌, ◌||◌, ◌⊎◌, inl, inr, Option, Some, None, refl, sym, ap, ap₂, ◌∙◌, subst, arith, ⊎_elim}
-use Rattle.std.specs.Prelude.{◌==◌, nat_le, nat_lt, is_some, IsTrue}
-use Rattle.std.specs.List.{list_all, list_any, position_or_len, range_with_len, AllByRecursion}
-use Rattle.std.proofs.lemmas.Bool.{and_parts, and_from, or_left, or_right, true≢false, not-true, eqb-true, eqb-false, eq-eqb, ne_eqb, cases_eq, cases_lt, lt-ltb, le-leb, false_from_ne_true}
-use Rattle.std.proofs.lemmas.List.FromFn.{get_or-range_with_len, length-range_with_len, length-map-range_with_len}
+use Rattle.std.proofs.Common.{◌≡◌, ◌≢◌, ℕ, zero, suc, ◌+◌, ◌-◌, ◌<◌, ◌≤◌, List, [], ◌∷◌, length, get_or, map, Bool, true, false, cond, not, ◌&&◌, ◌||◌, Some, None, refl, sym, ap, ap₂, ◌∙◌, subst, arith, ⊎_elim}
+use Rattle.std.specs.Prelude.{◌==◌, nat_lt, is_some, IsTrue}
+use Rattle.std.specs.List.{list_all, position_or_len, range_with_len, AllByRecursion}
+use Rattle.std.proofs.lemmas.Bool.{and_from, or_left, or_right, true≢false, not-true, eqb-true, eqb-false, eq-eqb, ne_eqb, cases_eq, cases_lt, lt-ltb, false_from_ne_true}
+use Rattle.std.proofs.lemmas.List.FromFn.{length-map-range_with_len}
 use Rattle.arr_view.specs.Views.{has}
 use Rattle.arr_ops.specs.declared.op.Op.{Op}
-use Rattle.arr_ops.specs.Ops.{fusible, dep}
-use Rattle.arr_ops.specs.Plans.{holders, not_empty, place, numbered, is_legal}
+use Rattle.arr_ops.specs.Ops.{dep}
+use Rattle.arr_ops.specs.Plans.{not_empty, place, numbered}
 use Rattle.arr_ops.specs.Costs.{cost}
 use Rattle.arr_ops.specs.Formed.{all_pairs, is_formed}
-use Rattle.arr_ops.specs.Order.{In, ordered, ordered_within, leads, least_of}
+use Rattle.arr_ops.specs.Order.{In, ordered, least_of}
 use Rattle.arr_ops.proofs.Tests.{or_cases}
-use Rattle.arr_ops.proofs.Members.{Apart as Differ, has_least, all_in}
+use Rattle.arr_ops.proofs.Members.{has_least, all_in}
 use Rattle.arr_ops.proofs.Ordering.{Ranked, ordered_there}
 use Rattle.arr_ops.proofs.Legality.{IsPartition, leads_to, distinct_of}
-use Rattle.arr_ops.proofs.Pairs.{Pairs, Pairs_weaker}
+use Rattle.arr_ops.proofs.Pairs.{Pairs_weaker}
 use Rattle.arr_heur.proofs.OrderedBlocks.{Told, all_told}
 use Rattle.arr_deps.specs.Graph.{op_at, nothing}
 use Rattle.arr_law.specs.declared.charge.Charge.{Charge}
-use Rattle.arr_law.specs.declared.fact.Fact.{Fact}
 use Rattle.arr_law.specs.declared.fact.Fact.TheVariants.{Same, Apart, Before}
 use Rattle.arr_law.specs.Problem.{Problem, is_op, is_pair, operations, sum_below}
-use Rattle.arr_law.specs.Facts.{Facts, is_fact, root_facts}
-use Rattle.arr_law.specs.Rules.{Rule, rule_named, applies}
-use Rattle.arr_law.specs.Floor.{IsClosed, IsSymmetric, Within}
-use Rattle.arr_law.specs.Plans.{is_together, place_in, cost_at}
+use Rattle.arr_law.specs.Facts.{Facts}
+use Rattle.arr_law.specs.Rules.{Rule, rule_named}
+use Rattle.arr_law.specs.Plans.{is_together, place_in}
 use Rattle.arr_law.specs.ProblemOf.{problem_of}
-use Rattle.arr_law.specs.Trees.{may_branch}
-use Rattle.arr_law.proofs.Agrees.{agrees, holders_place}
-use Rattle.arr_law.proofs.Members.{op_range, op_from, pair_from, pair_ops, all_at}
+use Rattle.arr_law.proofs.Agrees.{agrees}
+use Rattle.arr_law.proofs.Members.{op_range, op_from, pair_from, pair_ops}
 use Rattle.arr_bound.specs.Worth.{IsLargeLeaf, KeepsApart, Decides}
-use Rattle.arr_state.specs.Known.{AreOps}
-use Rattle.arr_state.specs.States.{IsConsistent}
-use Rattle.arr_state.specs.Went.{IsClash}
 use Rattle.arr_search.specs.Counts.{bit}
-use Rattle.arr_search.specs.Steps.{IsPlain}
-use Rattle.arr_search.specs.Nodes.{IsNode, IsSettledNode, IsDecided, IsPlanOf}
+use Rattle.arr_search.specs.Nodes.{IsSettledNode, IsDecided, IsPlanOf}
 use Rattle.arr_search.specs.Parts.{label_of, labels_of, with_label, parts, plan_by}
 use Rattle.arr_search.proofs.Base.{by_bool, bit-le, sum_below-less}
 use Rattle.arr_search.proofs.Partitions.{AreLabels, has_label, label_range, part_of, parts_partition, plan_legal, plan_shares}

@@ -1,8 +1,8 @@
 -- What a search has once no node is left.
-use Rattle.std.proofs.Common.{◌≡◌, ℕ, zero, suc, ◌+◌, ◌*◌, ◌^◌, ◌<◌, ◌≤◌, List, [], ◌∷◌, ◌++◌, length, map, Bool, true, not, ◌&&◌, ◌⊎◌, inl, inr, refl, sym, ap, ◌∙◌, subst, arith, length-append, min}
-use Rattle.std.specs.Prelude.{◌==◌, nat_le, codes, decimal, IsTrue}
+use Rattle.std.proofs.Common.{◌≡◌, ℕ, zero, suc, ◌+◌, ◌^◌, ◌<◌, ◌≤◌, List, [], ◌∷◌, ◌++◌, length, map, true, ◌&&◌, inl, refl, sym, ap, ◌∙◌, subst, arith, length-append, min}
+use Rattle.std.specs.Prelude.{nat_le, codes, decimal, IsTrue}
 use Rattle.std.specs.List.{list_all, range_with_len, AllByRecursion}
-use Rattle.std.proofs.lemmas.Bool.{and_parts, and_from, le-leb, leb-true, eq-eqb}
+use Rattle.std.proofs.lemmas.Bool.{and_parts, and_from, le-leb}
 use Rattle.std.proofs.lemmas.Fmt.{length-decimal-le}
 use Rattle.std.proofs.lemmas.List.Folds.{list_all-append}
 use Rattle.std.proofs.lemmas.List.FromFn.{length-map-range_with_len}
@@ -13,24 +13,24 @@ use Rattle.arr_ops.specs.Costs.{cost}
 use Rattle.arr_law.specs.declared.certificate.Certificate.{Certificate}
 use Rattle.arr_law.specs.declared.record.Record.{Record}
 use Rattle.arr_law.specs.declared.record.Record.TheVariants.{Flush, Plan, Cost, Bound, End}
-use Rattle.arr_law.specs.Problem.{Problem, is_op}
+use Rattle.arr_law.specs.Problem.{Problem}
 use Rattle.arr_law.specs.Facts.{root_facts}
 use Rattle.arr_law.specs.Laws.{IsLowerBound}
 use Rattle.arr_law.specs.Plans.{price}
 use Rattle.arr_law.specs.ProblemOf.{problem_of}
-use Rattle.arr_law.specs.Verdict.{accepts, is_tree_record, records_of, reading_of, Ends}
+use Rattle.arr_law.specs.Verdict.{is_tree_record, records_of, reading_of, Ends}
 use Rattle.arr_law.proofs.Lists.{yes_certifies}
-use Rattle.arr_cert.specs.Texts.{spaced, record_text, is_spelled, is_short, is_spellable}
+use Rattle.arr_cert.specs.Texts.{spaced, is_spelled, is_short, is_spellable}
 use Rattle.arr_heur.specs.Planners.{greedy_plan}
 use Rattle.arr_heur.proofs.Merged.{greedy_legal}
 use Rattle.arr_search.specs.declared.found.Found.{Found}
 use Rattle.arr_search.specs.declared.progress.Progress.{Progress}
 use Rattle.arr_search.specs.Found.{IsFound}
-use Rattle.arr_search.specs.Best.{places_of, IsCertificate, IsBest}
+use Rattle.arr_search.specs.Best.{places_of, IsBest}
 use Rattle.arr_search.specs.Nodes.{IsSearch, is_written}
 use Rattle.arr_search.specs.Running.{Running}
 use Rattle.arr_search.proofs.Accepted.{trees_are_accepted, trees_say_yes}
-use Rattle.arr_search.proofs.Certified.{no_fault, price_is, place_of}
+use Rattle.arr_search.proofs.Certified.{no_fault, price_is}
 use Rattle.arr_search.proofs.Lists.{plans_pay, root_symmetric}
 use Rattle.arr_search.proofs.Running.{started, finished}
 use Rattle.arr_search.proofs.Written.{behind_short}

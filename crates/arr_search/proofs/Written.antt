@@ -1,18 +1,16 @@
 -- What a search appends to a tree can be written: a line has few numbers, and they are small.
-use Rattle.std.proofs.Common.{◌≡◌, ◌≢◌, ℕ, zero, suc, ◌+◌, ◌-◌, ◌*◌, ◌^◌, ◌<◌, ◌≤◌, List, [], ◌∷◌, ◌++◌, length, get_or, drop, Bool, true, false, cond, not, ◌&&◌, ◌||◌, ◌⊎◌, Option, Some, None, refl, sym, ap, ap₂, ◌∙◌, subst, arith, ⊎_elim, length-append, lit<}
+use Rattle.std.proofs.Common.{◌≡◌, ◌≢◌, ℕ, zero, suc, ◌+◌, ◌*◌, ◌<◌, ◌≤◌, List, [], ◌∷◌, ◌++◌, length, get_or, drop, Bool, true, false, cond, not, ◌&&◌, ◌||◌, Option, Some, None, refl, sym, ap, ◌∙◌, subst, arith, ⊎_elim, length-append}
 use Rattle.std.specs.Prelude.{◌==◌, nat_le, nat_lt, codes, decimal, slice_get, unwrap_or}
 use Rattle.std.specs.List.{list_all, list_any, flat_map, position_or_len, sum_by, AllByRecursion}
 use Rattle.std.specs.Option.{option_map, option_to_list, option_and_then}
-use Rattle.std.proofs.lemmas.Bool.{and_parts, and_from, or_left, or_right, true≢false, false≢true, not-true, eqb-true, eqb-false, eq-eqb, leb-true, le-leb, ltb-true, ne_eqb, cases_eq, cases_lt}
+use Rattle.std.proofs.lemmas.Bool.{and_parts, and_from, or_left, or_right, true≢false, not-true, eqb-false, eq-eqb, leb-true, le-leb, ltb-true, ne_eqb, cases_eq, cases_lt}
 use Rattle.std.proofs.lemmas.Fmt.{length-decimal-le}
 use Rattle.std.proofs.lemmas.List.Sums.{sum_by-cons}
 use Rattle.arr_view.specs.Strided.{Strided}
 use Rattle.arr_view.specs.Views.{identical}
 use Rattle.arr_ops.specs.declared.op.Op.{Op}
-use Rattle.arr_ops.specs.declared.op.Operand.{Operand}
 use Rattle.arr_ops.specs.Ops.{inputs, outputs, views, view_of, array_of}
 use Rattle.arr_ops.specs.Formed.{all_pairs}
-use Rattle.arr_ops.specs.Costs.{distinct}
 use Rattle.arr_ops.proofs.Pairs.{Pairs, Pairs_weaker, All_weaker}
 use Rattle.arr_ops.proofs.Tests.{all_of, pairs_of, or_cases}
 use Rattle.arr_ops.proofs.Alike.{identical_symm, identical_trans}
@@ -24,19 +22,18 @@ use Rattle.arr_law.specs.declared.record.Record.{Record}
 use Rattle.arr_law.specs.declared.record.Record.TheVariants.{Flush, Plan, Cost, Bound, Step, Branch, Dead, Worth, End}
 use Rattle.arr_law.specs.Problem.{Problem, ends_base_of, is_op, sum_below}
 use Rattle.arr_law.specs.Facts.{Facts, with_fact}
-use Rattle.arr_law.specs.Rules.{Rule, free_rule, rule_named, applies}
+use Rattle.arr_law.specs.Rules.{Rule, free_rule, rule_named}
 use Rattle.arr_law.specs.Leaves.{is_apart, surely_charges, class_of, is_group, is_leaf}
-use Rattle.arr_law.specs.ProblemOf.{no_view, numbered_view, op_at, problem_of, view_at, views_of}
+use Rattle.arr_law.specs.ProblemOf.{no_view, op_at, problem_of, view_at, views_of}
 use Rattle.arr_law.specs.Trees.{may_branch}
 use Rattle.arr_law.proofs.Members.{op_range}
 use Rattle.arr_law.proofs.Sums.{sum_below-le, sum_below-swap, sum_below-front, sum_by-const, all_both, sum_distinct}
-use Rattle.arr_cert.specs.Texts.{spaced, behind, first_text, group_text, third_numbers, takes_two, record_text, is_group_spelled, is_spelled, is_short}
-use Rattle.arr_state.specs.Known.{after}
+use Rattle.arr_cert.specs.Texts.{spaced, behind, first_text, group_text, takes_two, is_group_spelled, is_spelled, is_short}
 use Rattle.arr_state.specs.Steps.{given, third, Steps}
 use Rattle.arr_state.proofs.Gives.{given-some, given_none}
 use Rattle.arr_search.specs.Counts.{bit}
 use Rattle.arr_search.specs.Nodes.{is_written}
-use Rattle.arr_search.proofs.Base.{by_bool, bit-most}
+use Rattle.arr_search.proofs.Base.{by_bool}
 
 -- ---- numbers
 

@@ -1,5 +1,5 @@
 -- What a search keeps true of its records and its plan, and what is known at a node.
-use Rattle.std.specs.Prelude.{◌≡◌, ℕ, ◌<◌, ◌≤◌, ◌⊎◌, true, false, Bool, ◌&&◌, ◌==◌, List, [], ◌∷◌, length, IsTrue}
+use Rattle.std.specs.Prelude.{◌≡◌, ℕ, ◌<◌, ◌≤◌, ◌⊎◌, true, false, Bool, ◌&&◌, ◌==◌, List, ◌∷◌, length, IsTrue}
 use Rattle.std.specs.List.{list_all}
 use Rattle.arr_ops.specs.declared.op.Op.{Op}
 use Rattle.arr_ops.specs.Formed.{is_formed}

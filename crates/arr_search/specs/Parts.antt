@@ -1,5 +1,5 @@
 -- Partitions by labels, and the plans that they make.
-use Rattle.std.specs.Prelude.{ℕ, suc, List, Bool, cond, length, map, Option, None, ◌==◌, ◌||◌}
+use Rattle.std.specs.Prelude.{ℕ, List, cond, length, map, Option, None, ◌==◌, ◌||◌}
 use Rattle.std.specs.List.{filter, position_or_len, range_with_len}
 use Rattle.arr_ops.specs.declared.op.Op.{Op}
 use Rattle.arr_ops.specs.Plans.{not_empty}

@@ -5,6 +5,7 @@ ghost use Rattle.arr_law.specs.ProblemOf.{problem_of};
 ghost use Rattle.arr_search.specs.Nodes.{IsSearch};
 
 use crate::NoMemory;
+use crate::gains::Candidates;
 use crate::node::work;
 use crate::progress::{Next, Progress};
 use arr_bound::Views;
@@ -36,8 +37,17 @@ pub(crate) fn explore(
     ensures { IfOk result (λ done. IsSearch graph.now budget [] progress.new) }
 {
     let mut waits: Vec<Waiting> = Vec::new(alloc);
+    let mut candidates = Candidates::new(alloc);
     loop {
-        match work(alloc, graph, views, state, progress, budget)? {
+        match work(
+            alloc,
+            graph,
+            views,
+            state,
+            &mut candidates,
+            progress,
+            budget,
+        )? {
             Next::Split(f, g) => {
                 waits.push(Waiting {
                     mark: state.mark(),

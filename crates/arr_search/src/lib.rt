@@ -14,6 +14,7 @@ mod choice;
 mod decided;
 mod explore;
 mod found;
+mod gains;
 mod laws;
 mod node;
 mod ops;

@@ -8,8 +8,8 @@ ghost use Rattle.arr_search.specs.Nodes.{IsNode, IsSettledNode};
 ghost use Rattle.arr_search.specs.Turns.{Advanced, Settled, Worked};
 
 use crate::NoMemory;
-use crate::choice::choose;
 use crate::decided::plan_of;
+use crate::gains::Candidates;
 use crate::progress::{Next, Progress, close_dead, close_leaf, open_branch};
 use arr_bound::{Views, charges};
 use arr_deps::Graph;
@@ -35,22 +35,26 @@ fn settle(
     alloc: Global,
     graph: &Graph,
     views: &Views,
-    state: &State,
+    state: &mut State,
+    candidates: &mut Candidates,
     progress: &mut Progress,
     budget: u64,
 ) -> Result<Next, NoMemory>
-    requires list { state.now.list ≡ graph.now }
+    requires list { state.old.list ≡ graph.now }
     requires views { views.now ≡ graph.now }
-    requires node { IsSettledNode (problem_of graph.now) (known state.now) }
+    requires node { IsSettledNode (problem_of graph.now) (known state.old) }
     requires within { progress.old.units ≤ budget }
-    ensures { IfOk result (λ next. Settled graph.now budget (known state.now) progress.old progress.new next) }
+    ensures list { state.new.list ≡ state.old.list }
+    ensures kept { IfOk result (λ next. state.new ≡ state.old) }
+    ensures settled { IfOk result (λ next. Settled graph.now budget (known state.old) progress.old progress.new next) }
 {
     let (worth, groups) = charges(alloc, views, state)?;
     if worth >= progress.cost {
         close_leaf(progress, worth, groups)?;
         return Ok(Next::Close);
     }
-    match choose(graph, state) {
+    let pair = candidates.pick(alloc, graph, views, state, progress.cost)?;
+    match pair {
         None => {
             progress.plan = plan_of(alloc, graph, state)?;
             progress.cost = worth;
@@ -74,6 +78,7 @@ pub(crate) fn work(
     graph: &Graph,
     views: &Views,
     state: &mut State,
+    candidates: &mut Candidates,
     progress: &mut Progress,
     budget: u64,
 ) -> Result<Next, NoMemory>
@@ -99,6 +104,6 @@ pub(crate) fn work(
             close_leaf(progress, rest, more)?;
             Ok(Next::Close)
         }
-        Outcome::Closed => settle(alloc, graph, views, state, progress, budget),
+        Outcome::Closed => settle(alloc, graph, views, state, candidates, progress, budget),
     }
 }

@@ -1,4 +1,4 @@
-use Rattle.std.proofs.Common.{◌≡◌, ◌∙◌, ◌≤◌, ◌<◌, ℕ, suc, List, length, map, ap, arith}
+use Rattle.std.proofs.Common.{◌∙◌, suc, map, ap, arith}
 use Rattle.std.specs.List.{range_with_len}
 use Rattle.arr_cost.proofs.Sums.{few_blocks}
 use Rattle.arr_ops.specs.Plans.{place}

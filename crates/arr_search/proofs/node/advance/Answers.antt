@@ -1,6 +1,5 @@
-use Rattle.std.proofs.Common.{◌≡◌, ◌+◌, ◌-◌, ◌++◌, ℕ, List, length, ap, ap₂, arith, length-append}
+use Rattle.std.proofs.Common.{◌≡◌, ◌+◌, ◌-◌, ℕ, List, length, ap, ap₂, arith, length-append}
 use Rattle.arr_law.specs.declared.record.Record.{Record}
-use Rattle.arr_search.specs.declared.progress.Progress.{Progress}
 use Rattle.arr_search.proofs.node.advance.Goals as goal
 
 pub returns-clause-advanced : goal.returns-clause-advanced

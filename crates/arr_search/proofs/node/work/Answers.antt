@@ -1,17 +1,17 @@
-use Rattle.std.proofs.Common.{◌≡◌, ◌≤◌, ◌<◌, ◌-◌, ◌∙◌, ℕ, List, length, sym, subst, arith}
+use Rattle.std.proofs.Common.{◌≡◌, ◌<◌, ◌-◌, ◌∙◌, ℕ, List, length, sym, subst, arith}
 use Rattle.std.proofs.lemmas.Result.{IfOk-weaker}
 use Rattle.arr_ops.specs.declared.op.Op.{Op}
 use Rattle.arr_law.specs.declared.fact.Fact.TheVariants.{Same}
-use Rattle.arr_law.specs.Facts.{Facts, facts_of}
+use Rattle.arr_law.specs.Facts.{facts_of}
 use Rattle.arr_law.specs.Floor.{floor}
 use Rattle.arr_law.specs.Problem.{Problem}
 use Rattle.arr_law.specs.ProblemOf.{problem_of}
 use Rattle.arr_bound.specs.Worth.{IsLargeLeaf}
 use Rattle.arr_state.specs.declared.outcome.Outcome.TheVariants.{Closed, Contradiction, Spent}
-use Rattle.arr_state.specs.States.{Ends, known}
+use Rattle.arr_state.specs.States.{Ends, Standing, known}
 use Rattle.arr_search.specs.Nodes.{IsNode, IsSettledNode}
-use Rattle.arr_search.specs.Turns.{Advanced, Settled}
-use Rattle.arr_search.proofs.Nodes.{about_at, advanced_all, advanced_units, dead, grown_node, known_at, leaf_at_once, leaf_at_state, leaf_spent, settled_leaf, worked_after, worked_at_once}
+use Rattle.arr_search.specs.Turns.{Advanced, Settled, Worked}
+use Rattle.arr_search.proofs.Nodes.{about_at, advanced_all, advanced_units, dead, grown_node, known_at, leaf_at_once, leaf_at_state, leaf_spent, ok_both, settled_leaf, worked_after, worked_at_once}
 use Rattle.arr_search.proofs.node.work.Goals as goal
 
 pub returns-then-worth-progress-clause-worked : goal.returns-then-worth-progress-clause-worked
@@ -119,4 +119,8 @@ returns-clause-worked c =
     let here : c.advance.new.state.list ≡ list = c.in_ok-f.ensures.list ∙ c.requires.list in
     let a : Advanced P b trail now p q c.in_ok-f.field-0 = subst (λ (l : List Op). Advanced (problem_of l) b trail now p q c.in_ok-f.field-0) c.requires.list c.in_ok-f.ensures.advanced in
     let low : floor P (facts_of P trail) < p.cost = omega (arith, leaf.over_floor, c.if-worth-progress.false) in
-    IfOk-weaker c.settle.result _ _ (λ next s. worked_after list b trail now p q c.settle.new.progress c.in_ok-f.field-0 next a low c.requires.within (subst (λ F. Settled list b F q c.settle.new.progress next) (known_at list c.advance.new.state here) s)) c.settle.ensures
+    IfOk-weaker c.settle.result _ _
+    (λ next h.
+    subst (λ (s : Standing). Worked list b trail s.trail p c.settle.new.progress next) (sym h.0)
+    (worked_after list b trail now p q c.settle.new.progress c.in_ok-f.field-0 next a low c.requires.within (subst (λ F. Settled list b F q c.settle.new.progress next) (known_at list c.advance.new.state here) h.1)))
+    (ok_both c.settle.result (λ next. c.settle.new.state ≡ c.advance.new.state) (λ next. Settled list b (known c.advance.new.state) q c.settle.new.progress next) c.settle.ensures.kept c.settle.ensures.settled)

@@ -1,4 +1,4 @@
-use Rattle.std.proofs.Common.{◌≡◌, ◌∙◌, ◌<◌, ◌≤◌, ℕ, arith}
+use Rattle.std.proofs.Common.{◌∙◌, arith}
 use Rattle.arr_search.proofs.Partitions.{share_tells}
 use Rattle.arr_search.proofs.parts.may_share.Goals as goal
 

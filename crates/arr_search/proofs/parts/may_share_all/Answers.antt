@@ -1,8 +1,8 @@
-use Rattle.std.proofs.Common.{◌≡◌, ◌∙◌, ◌<◌, ◌≤◌, true, sym, subst, length, arith}
+use Rattle.std.proofs.Common.{◌≡◌, ◌∙◌, ◌<◌, true, sym, subst, length, arith}
 use Rattle.std.specs.Prelude.{◌||◌, ◌==◌, not}
 use Rattle.std.specs.List.{list_all, range_with_len}
 use Rattle.arr_law.specs.Plans.{place_in}
-use Rattle.arr_law.specs.Problem.{is_pair, operations}
+use Rattle.arr_law.specs.Problem.{is_pair}
 use Rattle.arr_law.specs.ProblemOf.{problem_of}
 use Rattle.arr_search.proofs.Loops.{numbers_fail, numbers_more}
 use Rattle.arr_search.proofs.parts.may_share_all.Goals as goal

@@ -1,4 +1,4 @@
-use Rattle.std.proofs.Common.{◌≡◌, ◌∙◌, ◌+◌, ◌++◌, ◌∷◌, [], ℕ, List, Vec, Global, cond, map, ap, ap₂, sym, arith}
+use Rattle.std.proofs.Common.{◌≡◌, ◌∙◌, ◌+◌, ◌++◌, ◌∷◌, [], ℕ, List, cond, map, ap, ap₂, sym, arith}
 use Rattle.std.specs.List.{filter, range_with_len}
 use Rattle.arr_ops.specs.Plans.{not_empty}
 use Rattle.arr_search.specs.Parts.{with_label}

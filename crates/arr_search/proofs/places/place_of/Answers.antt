@@ -1,4 +1,4 @@
-use Rattle.std.proofs.Common.{◌≡◌, ◌∙◌, ◌+◌, ◌<◌, ◌≤◌, ℕ, Bool, false, true, List, [], Vec, Global, length, map, get_or, ap, sym, subst, arith, below_more}
+use Rattle.std.proofs.Common.{◌≡◌, ◌∙◌, ◌<◌, ℕ, Bool, false, List, [], Vec, Global, length, map, get_or, ap, sym, arith, below_more}
 use Rattle.std.proofs.lemmas.List.{length-map}
 use Rattle.arr_view.specs.Views.{has}
 use Rattle.arr_search.proofs.Loops.{get_map, place_here, place_none}

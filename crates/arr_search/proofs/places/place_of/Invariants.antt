@@ -1,4 +1,4 @@
-use Rattle.std.proofs.Common.{◌≡◌, ℕ, List, [], ◌<◌, false, get_or}
+use Rattle.std.proofs.Common.{◌≡◌, ℕ, [], ◌<◌, false, get_or}
 use Rattle.arr_view.specs.Views.{has}
 use Rattle.arr_search.proofs.places.place_of.Given as goal
 

@@ -1,4 +1,4 @@
-use Rattle.std.proofs.Common.{◌≡◌, ◌∙◌, ◌+◌, ◌++◌, ◌∷◌, [], ◌<◌, ◌≤◌, ℕ, suc, List, length, map, ap, ap₂, sym, subst, arith}
+use Rattle.std.proofs.Common.{◌≡◌, ◌∙◌, ◌+◌, ◌++◌, ◌∷◌, [], ℕ, suc, ap, ap₂, sym, arith}
 use Rattle.arr_ops.specs.Plans.{place}
 use Rattle.arr_search.proofs.Loops.{map_more}
 use Rattle.arr_search.proofs.places.places_of.Goals as goal
