@@ -30,7 +30,7 @@ use Rattle.arr_run.proofs.Writes.{front_of_second, part_of_first, part_of_second
 
 -- ---- what was read
 
-onto_more : (front more : List (ℕ × Record)) (rest : Reading) → onto (front ++ more) rest ≡ onto front (onto more rest)
+pub onto_more : (front more : List (ℕ × Record)) (rest : Reading) → onto (front ++ more) rest ≡ onto front (onto more rest)
 onto_more [] more rest = refl
 onto_more (x ∷ front) more rest = ap (Reads x.0 x.1) (onto_more front more rest)
 
