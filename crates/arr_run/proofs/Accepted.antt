@@ -1,5 +1,5 @@
 -- A certificate that is accepted: its numbers are small, and it is accepted at whatever lines it stands and whatever follows.
-use Rattle.std.proofs.Common.{◌≡◌, ◌⊎◌, inl, inr, ⊎_elim, ℕ, zero, suc, ◌+◌, ◌-◌, ◌^◌, ◌<◌, ◌≤◌, List, [], ◌∷◌, ◌++◌, length, map, Bool, true, false, cond, not, ◌&&◌, ◌||◌, ◌==◌, refl, ap, sym, ◌∙◌, subst, arith, Option, Some, None}
+use Rattle.std.proofs.Common.{◌≡◌, ⊎_elim, ℕ, zero, suc, ◌+◌, ◌-◌, ◌^◌, ◌≤◌, List, [], ◌∷◌, ◌++◌, length, map, Bool, true, false, cond, not, ◌&&◌, ◌||◌, ◌==◌, refl, ap, sym, ◌∙◌, subst, arith, Option, Some, None}
 use Rattle.std.specs.Prelude.{nat_lt, nat_le, slice_get, ⊤}
 use Rattle.std.specs.List.{flat_map, list_all}
 use Rattle.std.proofs.lemmas.Bool.{and_parts, and_from, or_cases, eqb-true, leb-true, lt-ltb, false≢true}
@@ -12,11 +12,11 @@ use Rattle.arr_law.specs.declared.record.Record.TheVariants.{Flush, Plan, Cost, 
 use Rattle.arr_law.specs.declared.reject.Reject.{Reject}
 use Rattle.arr_law.specs.declared.reject.Reject.TheVariants.{BadLeaf}
 use Rattle.arr_law.specs.Facts.{Facts, is_fact, root_facts, with_fact}
-use Rattle.arr_law.specs.Leaves.{is_group, is_leaf, worth}
+use Rattle.arr_law.specs.Leaves.{is_group, is_leaf}
 use Rattle.arr_law.specs.Problem.{Problem, ends_base_of, is_op, is_pair}
 use Rattle.arr_law.specs.Rules.{Rule, applies, free_rule, rule_list, rule_named}
 use Rattle.arr_law.specs.Trees.{after_rule, is_dead, may_branch, or_else, step_fault, subtrees, tree_fault, unless}
-use Rattle.arr_law.specs.Verdict.{Answer, Yes, No, AtHead, AtPlan, AtCost, AtBound, AtTree, Ends, Finished, Reading, Reads, State, Stops, accepts, after, answer, answer_unless, end_fault, if_finished, is_yes, reading_of, record_fault, records_of}
+use Rattle.arr_law.specs.Verdict.{Answer, Yes, AtHead, AtPlan, AtCost, AtBound, AtTree, Ends, Finished, Reading, Reads, State, Stops, accepts, after, answer, answer_unless, end_fault, is_yes, reading_of, record_fault, records_of}
 use Rattle.arr_cert.specs.Spelling.{is_sized}
 use Rattle.arr_cert.specs.Texts.{is_group_spelled, is_spelled, takes_two}
 use Rattle.arr_check.specs.Judged.{onto}

@@ -1,6 +1,6 @@
 -- A budget from its digits.
 use Rattle.std.proofs.Common.{◌≡◌, ◌&&◌, ℕ, ◌+◌, ◌-◌, ◌*◌, ◌<◌, ◌≤◌, List, [], ◌∷◌, length, drop, get_or, true, false, refl, ap, sym, ◌∙◌, arith, Some, None}
-use Rattle.std.specs.Prelude.{nat_le, Bool, if◌then◌else◌}
+use Rattle.std.specs.Prelude.{Bool, if◌then◌else◌}
 use Rattle.std.specs.Char.{digit_value}
 use Rattle.std.specs.Int.{IsInRange}
 use Rattle.std.specs.Str.{all_ascii_digits}

@@ -17,9 +17,9 @@ use Rattle.arr_run.specs.declared.choice.Choice.{Choice}
 use Rattle.arr_run.specs.declared.choice.Fuse.{Fuse}
 use Rattle.arr_run.specs.declared.choice.Fuse.TheVariants.{Linear, Greedy, Best}
 use Rattle.arr_run.specs.declared.planning.Planned.{Planned}
-use Rattle.arr_run.specs.Answers.{IsRun, IsWhole, run_text}
+use Rattle.arr_run.specs.Answers.{IsRun}
 use Rattle.arr_run.specs.Chosen.{IsChosen, alone}
-use Rattle.arr_run.specs.Laws.{GoesOn, RunsGoOn}
+use Rattle.arr_run.specs.Laws.{RunsGoOn}
 use Rattle.arr_run.specs.Parts.{PlannedParts}
 use Rattle.arr_run.specs.Pieces.{Pieces, PlannedPart, Segment, head, number_behind, segment_text, segments_from, slots_in}
 use Rattle.arr_run.proofs.Chosen.{chosen_legal}

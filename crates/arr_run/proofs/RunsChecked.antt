@@ -1,11 +1,11 @@
 -- What a run with certificates wrote is a proof that is accepted.
-use Rattle.std.proofs.Common.{◌≡◌, ◌⊎◌, inl, inr, ⊎_elim, ℕ, zero, suc, ◌+◌, ◌-◌, ◌*◌, ◌^◌, ◌<◌, ◌≤◌, List, [], ◌∷◌, ◌++◌, length, map, sum, take, drop, Bool, true, false, ◌&&◌, refl, ap, ap₂, sym, ◌∙◌, subst, arith, Option, Some, None, Ok, Err, append-nil, append_assoc, length-append, decimal}
+use Rattle.std.proofs.Common.{◌≡◌, inl, ℕ, suc, ◌+◌, ◌-◌, ◌^◌, ◌<◌, ◌≤◌, List, [], ◌∷◌, ◌++◌, length, map, sum, take, drop, Bool, true, false, ◌&&◌, refl, ap, ap₂, sym, ◌∙◌, subst, arith, Option, Some, None, append-nil, append_assoc, length-append, decimal}
 use Rattle.std.specs.Prelude.{cond, nat_lt, nat_le}
 use Rattle.std.specs.List.{flat_map, list_all, range_with_len, sum_by}
 use Rattle.std.proofs.lemmas.List.Sums.{sum-map, sum_by-cons}
 use Rattle.std.specs.Option.{option_to_list}
 use Rattle.std.specs.Io.KnownBytes.{Appends}
-use Rattle.std.proofs.lemmas.Bool.{and_parts, and_from, eqb-true, leb-true, lt-ltb, eq-eqb}
+use Rattle.std.proofs.lemmas.Bool.{and_parts, and_from, leb-true, lt-ltb}
 use Rattle.std.proofs.lemmas.List.{map-append}
 use Rattle.arr_syntax.specs.Tokens.{tokens}
 use Rattle.arr_syntax.proofs.Unique.{not_both, one_script}
@@ -34,7 +34,7 @@ use Rattle.arr_law.specs.declared.record.Record.{Record}
 use Rattle.arr_law.specs.declared.charge.Charge.{Charge}
 use Rattle.arr_law.specs.declared.record.Record.TheVariants.{Step as Stepped, Branch, Dead, Worth, End, Flush as Head, Plan as Places, Cost as Priced, Bound as Bounded}
 use Rattle.arr_law.specs.ProblemOf.{problem_of}
-use Rattle.arr_law.specs.Verdict.{Accepted, AtHead, Ends, Reading, Reads, Verdict, Yes, accepts, answer, is_tree_record, records_of, verdict_from, with_answer}
+use Rattle.arr_law.specs.Verdict.{Accepted, AtHead, Ends, Reading, Reads, Yes, answer, is_tree_record, records_of, verdict_from, with_answer}
 use Rattle.arr_cert.specs.Proofs.{is_open}
 use Rattle.arr_cert.specs.Reading.{Has, IsRead, is_marked, lines, marked}
 use Rattle.arr_cert.specs.Spelling.{is_sized}
@@ -43,20 +43,19 @@ use Rattle.arr_cert.proofs.Back.{read_once}
 use Rattle.arr_cert.proofs.Joined.{free_join}
 use Rattle.arr_cert.proofs.Passing.{first_line, is_within, text_is}
 use Rattle.arr_check.specs.Judged.{onto}
-use Rattle.arr_search.specs.Best.{IsCertificate, places_of}
+use Rattle.arr_search.specs.Best.{IsCertificate}
 use Rattle.arr_listing.specs.Texts.{array_text}
-use Rattle.arr_store.specs.Stored.{Stored}
 use Rattle.arr_run.specs.declared.choice.Choice.{Choice}
 use Rattle.arr_run.specs.declared.choice.Fuse.TheVariants.{Best}
 use Rattle.arr_run.specs.declared.choice.Listing.TheVariants.{Cert}
 use Rattle.arr_run.specs.declared.planning.Planned.{Planned}
 use Rattle.arr_run.specs.declared.words.Command.TheVariants.{Run, Check}
-use Rattle.arr_run.specs.Answers.{Answer as Reply, Ends as Whole, Given, IsAccepted, IsCheck, IsRun, IsWhole, Refuses, answer_status, answer_text, check_verdict, checked, done, grammar, is_final, length_, meaning, refused, run_text}
-use Rattle.arr_run.specs.Checked.{IsProof, accepted_line, checks, flush_lines, lists_of, most_proof, verdict_status, verdict_text}
+use Rattle.arr_run.specs.Answers.{Answer as Reply, Ends as Whole, Given, IsAccepted, IsCheck, IsRun, IsWhole, Refuses, answer_status, answer_text, check_verdict, checked, done, grammar, length_, meaning, refused, run_text}
+use Rattle.arr_run.specs.Checked.{IsProof, checks, lists_of, most_proof, verdict_status, verdict_text}
 use Rattle.arr_run.specs.Chosen.{IsChosen, Searched}
 use Rattle.arr_run.specs.Laws.{AcceptsRun, RunsCheck, bounds_in, run_bounds}
-use Rattle.arr_run.specs.Pieces.{Pieces, Segment, bound_line, certificate_lines, flush_head, number_behind, plan_lines, planned_lines, segment_text, segments_from, slots_in}
-use Rattle.arr_run.proofs.Accepted.{certificate_moves, certificate_sized, narrow, records}
+use Rattle.arr_run.specs.Pieces.{Pieces, bound_line, certificate_lines, flush_head, plan_lines, segment_text, segments_from, slots_in}
+use Rattle.arr_run.proofs.Accepted.{certificate_moves, certificate_sized, records}
 use Rattle.arr_run.proofs.Judging.{onto_more}
 use Rattle.arr_run.proofs.Chosen.{small_costs}
 use Rattle.arr_run.proofs.Rewritten.{Kept, normal_kept}

@@ -1,6 +1,6 @@
 -- Texts in which no line begins with `!`: a reader of proofs passes over them.
 use Rattle.std.proofs.Common.{◌≡◌, ◌≢◌, ◌⊎◌, inl, inr, ℕ, ℤ, pos, negsuc, zero, suc, ◌+◌, ◌-◌, ◌<◌, ◌≤◌, ◌/◌, ◌%◌, List, [], ◌∷◌, ◌++◌, length, sum, take, drop, Bool, true, false, cond, not, ◌&&◌, ◌==◌, refl, ap, sym, ◌∙◌, arith, Option, Some, None, append-nil, append_assoc, codes, decimal}
-use Rattle.std.specs.Prelude.{nat_lt, slice_index, if◌then◌else◌}
+use Rattle.std.specs.Prelude.{nat_lt, if◌then◌else◌}
 use Rattle.std.specs.Fmt.{digits, digits_onto, digit_glyph, signed_decimal}
 use Rattle.std.specs.List.{flat_map, list_all}
 use Rattle.std.proofs.lemmas.Bool.{and_parts, and_from, ne_eqb, not-true}
@@ -13,10 +13,10 @@ use Rattle.arr_ops.specs.Memory.{Slot}
 use Rattle.arr_ops.specs.declared.op.Op.{Op}
 use Rattle.arr_ops.specs.declared.op.Operand.{Operand}
 use Rattle.arr_ops.specs.declared.op.Operand.TheVariants.{Array, Number}
-use Rattle.arr_cert.specs.Reading.{is_feed, is_marked, lines, marked, onto_first, with_byte}
+use Rattle.arr_cert.specs.Reading.{is_feed, is_marked, lines, marked, with_byte}
 use Rattle.arr_cert.proofs.Joined.{free_join, is_free}
 use Rattle.arr_cert.proofs.Passing.{is_within}
-use Rattle.arr_listing.specs.Texts.{array_text, code_name, dimension_text, dimensions_text, input_text, labelled_text, more_dimensions_text, numbers_text, op_text, operand_text, output_text, row_count, row_width, rows, spaced, type_name, view_text}
+use Rattle.arr_listing.specs.Texts.{array_text, code_name, dimension_text, dimensions_text, input_text, labelled_text, more_dimensions_text, op_text, operand_text, output_text, row_count, row_width, rows, spaced, type_name, view_text}
 use Rattle.arr_listing.specs.Plans.{block_text, blocks_text, bound_text, head_text, ops_text, plan_text}
 
 -- ---- no `!`

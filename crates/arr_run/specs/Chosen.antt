@@ -1,5 +1,5 @@
 -- Which plan is chosen for a list, and what the search for a best plan shows of it.
-use Rattle.std.specs.Prelude.{ℕ, ◌≡◌, ◌⊎◌, true, List, Option, Some, None, IsTrue}
+use Rattle.std.specs.Prelude.{ℕ, ◌≡◌, ◌⊎◌, true, List, Some, None, IsTrue}
 use Rattle.arr_ops.specs.declared.op.Op.{Op}
 use Rattle.arr_ops.specs.Costs.{cost}
 use Rattle.arr_ops.specs.Plans.{is_legal}

@@ -1,5 +1,4 @@
-use Rattle.std.proofs.Common.{◌≡◌, inl, inr}
-use Rattle.std.proofs.KnownBytes.{Appends-nil}
+use Rattle.std.proofs.Common.{◌≡◌, inr}
 use Rattle.arr_store.specs.Stored.{memory_of}
 use Rattle.arr_ops.specs.Memory.{eager, without_slots}
 use Rattle.arr_run.specs.declared.flush.RunFault.TheVariants.{WriteFault, NoMemory}

@@ -1,6 +1,12 @@
+use Rattle.arr_rewrite.specs.NormalForm.{normal_form}
+use Rattle.arr_run.proofs.Chosen.{certificate_spellable}
 use Rattle.arr_run.proofs.Flushing.{all_ok}
 use Rattle.arr_run.proofs.Writes.{written_both}
 use Rattle.arr_run.proofs.head.write_certified.Goals as goal
+
+pub write_certificate-requires : goal.write_certificate-requires
+write_certificate-requires g c = λ certificate is.
+    certificate_spellable c.args.choice.fuse (normal_form c.args.ops.now) c.args.number c.args.choice.budget c.args.prepared.now.planned c.requires.prepared.planned.chosen certificate is
 
 pub returns : goal.returns
 returns g c =

@@ -1,7 +1,6 @@
-use Rattle.std.proofs.Common.{◌≡◌, ◌∙◌, ◌*◌, ◌+◌, ◌<◌, ◌≤◌, ◌^◌, [], ap, sym, refl, subst, arith, rules, take, drop, length, true, Err, take_all}
+use Rattle.std.proofs.Common.{◌≡◌, ◌∙◌, ◌+◌, ◌≤◌, sym, refl, subst, arith, rules, drop, true, Err}
 use Rattle.arr_record.specs.Runs.{after_part, each_fits}
 use Rattle.arr_store.specs.Stored.{memory_of}
-use Rattle.arr_run.specs.Parts.{PartsWrote}
 use Rattle.arr_run.specs.Pieces.{number_behind}
 use Rattle.arr_run.proofs.Turns.{Turn, behind_most, broke, is_one, risen, stopped, turn, wrote_more}
 use Rattle.arr_run.proofs.parts.run_parts.Goals as goal

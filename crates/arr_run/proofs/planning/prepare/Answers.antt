@@ -1,4 +1,4 @@
-use Rattle.std.proofs.Common.{◌≡◌, ◌∙◌, ◌≤◌, ap, ap₂, sym, subst, arith, length, map, true}
+use Rattle.std.proofs.Common.{◌≡◌, ◌∙◌, ◌≤◌, ap, sym, subst, arith, length, map, true}
 use Rattle.arr_ops.specs.Costs.{block_cost, cost}
 use Rattle.arr_ops.specs.Plans.{is_legal}
 use Rattle.arr_cost.proofs.Sums.{few_blocks}
