@@ -10,9 +10,9 @@ use Rattle.arr_view.specs.Views.{has}
 use Rattle.arr_ops.specs.Formed.{all_pairs}
 use Rattle.arr_ops.proofs.Tests.{or_cases}
 use Rattle.arr_law.specs.declared.charge.Charge.{Charge}
-use Rattle.arr_law.specs.declared.fact.Fact.TheVariants.{Apart}
+use Rattle.arr_law.specs.declared.fact.Fact.TheVariants.{Same, Apart, Before}
 use Rattle.arr_law.specs.Problem.{Problem, is_op, operations, sum_below}
-use Rattle.arr_law.specs.Facts.{Facts}
+use Rattle.arr_law.specs.Facts.{Facts, Meets}
 use Rattle.arr_law.specs.Plans.{outside_at, charged_at, cost_at}
 use Rattle.arr_law.specs.Leaves.{is_apart, surely_charges, class_of, is_group, is_leaf, worth}
 use Rattle.arr_law.specs.Floor.{is_paid, is_paid_twice, floor_of_class}
@@ -20,7 +20,7 @@ use Rattle.arr_law.proofs.Members.{any_witness, ops_are}
 use Rattle.arr_law.proofs.Pays.{leaf_pays}
 use Rattle.arr_law.proofs.Sums.{sum_below-swap}
 use Rattle.arr_bound.specs.Picks.{IsPick}
-use Rattle.arr_bound.specs.Worth.{Decides, LeafBelow, IsLargeLeaf, Joined, paid}
+use Rattle.arr_bound.specs.Worth.{Decides, KeepsApart, LeafBelow, IsLargeLeaf, Joined, paid}
 
 -- ---- sums
 
@@ -288,16 +288,26 @@ module _ (problem : Problem) (facts : Facts) (c : ℕ) (apart : ℕ → ℕ → 
             over_plan = plans;
           }
 
+-- what the facts tell of operations that stand apart, and no more
+abbrev apart_only : Facts → Facts
+apart_only facts (Apart f g) = facts (Apart f g)
+apart_only facts _ = false
+
+apart_met : (facts : Facts) (at : ℕ → ℕ) → KeepsApart facts at → Meets at (apart_only facts)
+apart_met facts at keeps (Apart f g) e = keeps f g e
+apart_met facts at keeps (Same f g) e = absurd (false≢true e)
+apart_met facts at keeps (Before f g) e = absurd (false≢true e)
+
 pub leaf_whole : (problem : Problem) (facts : Facts) (limit value : ℕ) (charges : List Charge) → limit ≡ problem.classes → LeafBelow problem facts limit value charges → IsLargeLeaf problem facts value charges
 leaf_whole problem facts limit value charges e l =
     record {
       leaf = l.leaf;
       worth_is = l.worth_is;
       over_floor = subst (λ n. sum_below (floor_of_class problem facts) n ≤ value) e l.over_floor;
-      plan_costs = λ at blocks legal met d.
+      plan_costs = λ at blocks legal keeps d.
           let most : cost_at problem at blocks ≤ value =
           subst (λ s. s ≤ value) (sym (sum_below-swap (λ k c. cond (charged_at problem at k c) (problem.weight c) 0) blocks problem.classes)) (subst (λ n. sum_below (paid problem at blocks) n ≤ value) e (l.over_plan at blocks d)) in
-          omega (arith, most, l.worth_is, leaf_pays problem at blocks legal facts met charges l.leaf);
+          omega (arith, most, l.worth_is, leaf_pays problem at blocks legal (apart_only facts) (apart_met facts at keeps) charges l.leaf);
     }
 
 pub leaf_none : (problem : Problem) (facts : Facts) (charges : List Charge) → charges ≡ [] → LeafBelow problem facts 0 0 charges

@@ -4,7 +4,7 @@ use Rattle.std.specs.List.{AllByRecursion}
 use Rattle.arr_law.specs.declared.charge.Charge.{Charge}
 use Rattle.arr_law.specs.declared.fact.Fact.TheVariants.{Apart}
 use Rattle.arr_law.specs.Problem.{Problem, is_op, sum_below}
-use Rattle.arr_law.specs.Facts.{Facts, Meets}
+use Rattle.arr_law.specs.Facts.{Facts}
 use Rattle.arr_law.specs.Plans.{IsLegalAt, charged_at, cost_at}
 use Rattle.arr_law.specs.Leaves.{class_of, is_leaf, worth}
 use Rattle.arr_law.specs.Floor.{floor, floor_of_class}
@@ -19,12 +19,16 @@ TellsApart problem facts rows =
 abbrev pub Decides : Problem → Facts → (ℕ → ℕ) → Type 0
 Decides problem facts at = (f g : ℕ) → IsTrue (is_op problem f) → IsTrue (is_op problem g) → at f ≢ at g → IsTrue (facts (Apart f g))
 
--- the groups are a lawful leaf with this worth, no less than the floor; a legal plan that meets the facts, and that they decide, costs just that
+-- operations that are known to stand apart stand at different places
+abbrev pub KeepsApart : Facts → (ℕ → ℕ) → Type 0
+KeepsApart facts at = (f g : ℕ) → IsTrue (facts (Apart f g)) → at f ≢ at g
+
+-- the groups are a lawful leaf with this worth, no less than the floor; a legal plan costs just that where the facts tell what stands apart in it
 pub record IsLargeLeaf (problem : Problem) (facts : Facts) (value : ℕ) (charges : List Charge) : Type 0 where
   pub leaf : IsTrue (is_leaf problem facts charges)
   pub worth_is : value ≡ worth problem charges
   pub over_floor : floor problem facts ≤ value
-  pub plan_costs : (at : ℕ → ℕ) (blocks : ℕ) → IsLegalAt problem at blocks → Meets at facts → Decides problem facts at → cost_at problem at blocks ≡ value
+  pub plan_costs : (at : ℕ → ℕ) (blocks : ℕ) → IsLegalAt problem at blocks → KeepsApart facts at → Decides problem facts at → cost_at problem at blocks ≡ value
 
 -- what the blocks pay for a class
 abbrev pub paid : Problem → (ℕ → ℕ) → ℕ → ℕ → ℕ

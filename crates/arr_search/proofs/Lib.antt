@@ -4,3 +4,11 @@ pub mod Stepped
 pub mod Running
 pub mod Lists
 pub mod Accepted
+pub mod Loops
+pub mod Partitions
+pub mod Sharing
+pub mod Written
+pub mod Nodes
+pub mod Waits
+pub mod Certified
+pub mod Whole

@@ -260,7 +260,7 @@ both problem a b c s t p q =
 
 pub stepped : (problem : Problem) (facts : Facts) (steps : List Record) (gives : List Fact) → Steps problem facts steps gives → Stepped problem facts (after facts gives) steps
 stepped problem facts [] [] s = none problem facts
-stepped problem facts (Step n f g h ∷ steps) (x ∷ gives) s = both problem facts (with_fact x facts) (after (with_fact x facts) gives) (Step n f g h ∷ []) steps (one problem facts n f g h x s.0) (stepped problem (with_fact x facts) steps gives s.1)
+stepped problem facts (Step n f g h ∷ steps) (x ∷ gives) s = both problem facts (with_fact x facts) (after (with_fact x facts) gives) (Step n f g h ∷ []) steps (one problem facts n f g h x s.0) (stepped problem (with_fact x facts) steps gives s.2)
 stepped problem facts [] (x ∷ gives) s = absurd s
 stepped problem facts (Step n f g h ∷ steps) [] s = absurd s
 stepped problem facts (Branch f g ∷ steps) gives s = absurd s

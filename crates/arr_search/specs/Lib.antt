@@ -2,5 +2,8 @@ pub mod Counts
 pub mod Steps
 pub mod Found
 pub mod Best
+pub mod Parts
+pub mod Nodes
+pub mod Turns
 pub mod Running
 pub mod Laws

@@ -10,8 +10,17 @@
 #![tactic(auto)]
 
 mod best;
+mod choice;
+mod decided;
+mod explore;
 mod found;
+mod gains;
 mod laws;
+mod node;
+mod ops;
+mod parts;
+mod places;
+mod progress;
 
 pub use best::search;
 pub use found::Found;

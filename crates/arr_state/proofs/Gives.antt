@@ -1,6 +1,6 @@
 -- What a step that gives a fact says.
 use Rattle.std.proofs.Common.{◌≡◌, ◌≢◌, ℕ, zero, suc, ◌-◌, ◌<◌, ◌≤◌, length, arith, List, [], ◌∷◌, Bool, true, false, cond, not, ◌&&◌, Option, Some, None, refl, sym, ap, ◌∙◌, subst}
-use Rattle.std.specs.Prelude.{nat_le, ◌==◌, slice_get}
+use Rattle.std.specs.Prelude.{nat_le, ◌==◌, ◌||◌, slice_get}
 use Rattle.std.specs.List.{list_all, AllByRecursion}
 use Rattle.std.proofs.lemmas.Bool.{and_parts, not-true, leb-true, eqb-true}
 use Rattle.arr_ops.proofs.Tests.{all_of}
@@ -10,7 +10,7 @@ use Rattle.arr_law.specs.Problem.{Problem, is_op, ends_base_of}
 use Rattle.arr_law.specs.Facts.{Facts}
 use Rattle.arr_law.specs.Rules.{Rule, rule_list, free_rule, rule_named, applies}
 use Rattle.arr_state.specs.Known.{AreOps}
-use Rattle.arr_state.specs.Steps.{given}
+use Rattle.arr_state.specs.Steps.{given, third}
 use Rattle.arr_state.specs.Went.{CanGoOn}
 use Rattle.arr_state.proofs.Basics.{by_bool}
 
@@ -96,3 +96,26 @@ given_none problem facts n f g h n3 n4 n5 n6 n7 n8 n9 = unnamed (rule_named prob
     unnamed : (o : Option Rule) → rule_named problem 2 n f g h ≡ o → None ≡ given problem facts o
     unnamed None e = refl
     unnamed (Some rule) e = absurd (start (n == 9) refl rule e)
+
+-- a rule that takes two operations is the same whatever the third
+pub third_same : (problem : Problem) (n f g h : ℕ) → rule_named problem 2 n f g (third n h) ≡ rule_named problem 2 n f g h
+third_same problem n f g h = by_bool (n == 3) (λ e. at_three (eqb-true n 3 e)) (λ a. by_bool (n == 5) (λ e. at_five (eqb-true n 5 e)) (λ b. by_bool (n == 9) (λ e. at_nine (eqb-true n 9 e)) (λ c. elsewhere a b c)))
+  where
+    at_three : n ≡ 3 → rule_named problem 2 n f g (third n h) ≡ rule_named problem 2 n f g h
+    at_three e = subst (λ m. rule_named problem 2 m f g (third m h) ≡ rule_named problem 2 m f g h) (sym e) refl
+
+    at_five : n ≡ 5 → rule_named problem 2 n f g (third n h) ≡ rule_named problem 2 n f g h
+    at_five e = subst (λ m. rule_named problem 2 m f g (third m h) ≡ rule_named problem 2 m f g h) (sym e) refl
+
+    at_nine : n ≡ 9 → rule_named problem 2 n f g (third n h) ≡ rule_named problem 2 n f g h
+    at_nine e = subst (λ m. rule_named problem 2 m f g (third m h) ≡ rule_named problem 2 m f g h) (sym e) refl
+
+    elsewhere : (n == 3) ≡ false → (n == 5) ≡ false → (n == 9) ≡ false → rule_named problem 2 n f g (third n h) ≡ rule_named problem 2 n f g h
+    elsewhere a b c = ap (rule_named problem 2 n f g) (ap (λ t. cond (t || ((n == 5) || (n == 9))) 0 h) a ∙ (ap (λ t. cond (t || (n == 9)) 0 h) b ∙ ap (λ t. cond t 0 h) c))
+
+pub third_twice : (n h : ℕ) → third n (third n h) ≡ third n h
+third_twice n h = go ((n == 3) || ((n == 5) || (n == 9)))
+  where
+    go : (b : Bool) → cond b 0 (cond b 0 h) ≡ cond b 0 h
+    go true = refl
+    go false = refl

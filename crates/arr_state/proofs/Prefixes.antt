@@ -32,7 +32,7 @@ prefix_step problem trail k d l y e =
 -- no more facts are given than steps taken
 steps_length : (problem : Problem) (facts : Facts) (steps : List Record) (gives : List Fact) → Steps problem facts steps gives → length steps ≡ length gives
 steps_length problem facts [] [] s = refl
-steps_length problem facts (Step n f g h ∷ steps) (x ∷ gives) s = ap suc (steps_length problem (with_fact x facts) steps gives s.1)
+steps_length problem facts (Step n f g h ∷ steps) (x ∷ gives) s = ap suc (steps_length problem (with_fact x facts) steps gives s.2)
 steps_length problem facts [] (x ∷ gives) s = absurd s
 steps_length problem facts (Step n f g h ∷ steps) [] s = absurd s
 steps_length problem facts (Branch f g ∷ steps) gives s = absurd s

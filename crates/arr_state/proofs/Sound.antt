@@ -21,7 +21,7 @@ module _ (problem : Problem) (fair : IsProper problem) (at : ℕ → ℕ) (block
   steps_met facts [] [] s met = met
   steps_met facts (Step n f g h ∷ steps) (x ∷ gives) s met =
       let p = given-some problem facts (rule_named problem 2 n f g h) x s.0 in
-      steps_met (with_fact x facts) steps gives s.1
+      steps_met (with_fact x facts) steps gives s.2
       (subst (λ y. Meets at (with_fact y facts)) p.3 (rule_met problem at facts p.0 (rule_sound problem fair at blocks legal settled facts 2 n f g h p.0 p.1 p.2) p.2 met))
   steps_met facts [] (x ∷ gives) s met = absurd s
   steps_met facts (Step n f g h ∷ steps) [] s met = absurd s

@@ -15,12 +15,12 @@ use Rattle.arr_state.specs.declared.outcome.Going.{Going}
 use Rattle.arr_state.specs.declared.outcome.Going.TheVariants.{On, Clash, NoneLeft}
 use Rattle.arr_state.specs.declared.known.Known.{Known}
 use Rattle.arr_state.specs.Known.{after}
-use Rattle.arr_state.specs.Steps.{given, Steps, are_lawful}
+use Rattle.arr_state.specs.Steps.{given, third, Steps, are_lawful}
 use Rattle.arr_state.specs.Jobs.{Tried}
 use Rattle.arr_state.specs.Went.{IsClash, Reaches, IfOn, Went}
 use Rattle.arr_state.proofs.Basics.{by_bool, all_more, with_within}
 use Rattle.arr_state.proofs.Spelled.{with_here}
-use Rattle.arr_state.proofs.Gives.{given_on}
+use Rattle.arr_state.proofs.Gives.{given_on, third_same, third_twice}
 
 pub after_grows : (facts : Facts) (gives : List Fact) → Within facts (after facts gives)
 after_grows facts [] x e = e
@@ -28,7 +28,7 @@ after_grows facts (y ∷ gives) x e = after_grows (with_fact y facts) gives x (w
 
 pub steps-append : (problem : Problem) (facts : Facts) (s t : List Record) (xs ys : List Fact) → Steps problem facts s xs → Steps problem (after facts xs) t ys → Steps problem facts (s ++ t) (xs ++ ys)
 steps-append problem facts [] t [] ys p q = q
-steps-append problem facts (Step n f g h ∷ s) t (x ∷ xs) ys p q = (p.0, steps-append problem (with_fact x facts) s t xs ys p.1 q)
+steps-append problem facts (Step n f g h ∷ s) t (x ∷ xs) ys p q = (p.0, p.1, steps-append problem (with_fact x facts) s t xs ys p.2 q)
 steps-append problem facts [] t (x ∷ xs) ys p q = absurd p
 steps-append problem facts (Step n f g h ∷ s) t [] ys p q = absurd p
 steps-append problem facts (Branch f g ∷ s) t xs ys p q = absurd p
@@ -125,12 +125,15 @@ module _ (problem : Problem) (s : Known) (tree : List Record) (left n f g h : �
       let same : x ≡ rule.gives = cc in
       subst (λ y. with_fact x (facts_of problem s.facts.items) y ≡ true) same (with_here (facts_of problem s.facts.items) x))
 
-  module _ (s' : Known) (tree' : List Record) (t : s'.facts.items ≡ s.facts.items ++ x ∷ []) (r : tree' ≡ tree ++ Step n f g h ∷ []) (some : left ≡ 0 → ⊥) where
+  module _ (s' : Known) (tree' : List Record) (t : s'.facts.items ≡ s.facts.items ++ x ∷ []) (r : tree' ≡ tree ++ Step n f g (third n h) ∷ []) (some : left ≡ 0 → ⊥) where
+    here : Steps problem (facts_of problem s.facts.items) (Step n f g (third n h) ∷ []) (x ∷ [])
+    here = (ap (given problem (facts_of problem s.facts.items)) (third_same problem n f g h) ∙ e, third_twice n h, tt)
+
     pub went_on : Went problem s s' tree tree' left (On (left - 1)) (Tried problem n f g h)
-    went_on = record { steps = Step n f g h ∷ []; gives = x ∷ []; tree_is = r; trail_is = t; are_steps = (e, tt); room = omega arith; reaches = omega arith; done = given_tried s'.facts.items t }
+    went_on = record { steps = Step n f g (third n h) ∷ []; gives = x ∷ []; tree_is = r; trail_is = t; are_steps = here; room = omega arith; reaches = omega arith; done = given_tried s'.facts.items t }
 
     pub went_clash : (y z : ℕ) (D : Facts → Facts → Type 0) → IsClash (facts_of problem s'.facts.items) y z → Went problem s s' tree tree' left (Clash y z) D
-    went_clash y z D both = record { steps = Step n f g h ∷ []; gives = x ∷ []; tree_is = r; trail_is = t; are_steps = (e, tt); room = omega arith; reaches = both; done = tt }
+    went_clash y z D both = record { steps = Step n f g (third n h) ∷ []; gives = x ∷ []; tree_is = r; trail_is = t; are_steps = here; room = omega arith; reaches = both; done = tt }
 
 module _ (problem : Problem) (t0 t1 t2 : Known) (r0 r1 r2 : List Record) (left rest : ℕ) (result : Going) (D1 D2 D : Facts → Facts → Type 0) (p : Went problem t0 t1 r0 r1 left (On rest) D1) (q : Went problem t1 t2 r1 r2 rest result D2) where
   pub went_clashes : (x y : ℕ) → result ≡ Clash x y → Went problem t0 t2 r0 r2 left (Clash x y) D

@@ -8,6 +8,7 @@ ghost use Rattle.arr_state.specs.Kept.{IsKept};
 ghost use Rattle.arr_state.specs.Known.{HoldRoots};
 ghost use Rattle.arr_state.specs.Sieves.{IsSieve};
 ghost use Rattle.arr_state.specs.States.{IsEnded, Saturated};
+ghost use Rattle.arr_state.specs.Steps.{third};
 ghost use Rattle.arr_state.specs.Went.{Went};
 
 use crate::NoMemory;
@@ -20,6 +21,17 @@ use crate::rules::step;
 use crate::sift::{Sieve, is_idle, sieve_of, sifted};
 use arr_law::{Fact, Record, Records};
 use arr_ops::Op;
+
+/// The third operation that a step names: rules 3, 5 and 9 take two, and name 0.
+fn third_of(rule: u8, h: u32) -> u32
+    ensures { result ≡ third rule h }
+{
+    if rule == 3 || rule == 5 || rule == 9 {
+        0
+    } else {
+        h
+    }
+}
 
 /// Tries one rule.
 fn attempt(
@@ -42,7 +54,12 @@ fn attempt(
             if left == 0 {
                 return Ok(Going::NoneLeft);
             }
-            tree.push(Record::Step { rule, f, g, h })?;
+            tree.push(Record::Step {
+                rule,
+                f,
+                g,
+                h: third_of(rule, h),
+            })?;
             add(ops, known, fact)?;
             match clash_at(ops, known, fact) {
                 Some((x, y)) => Ok(Going::Clash(x, y)),

@@ -2,7 +2,9 @@
 ghost use Rattle.std.specs.Prelude.{◌≡◌, ◌≤◌, ◌++◌, ◌∷◌, [], cond, false, IfOk, IsTrue, OnErr, OnOk, length, take};
 ghost use Rattle.arr_law.specs.Problem.{is_pair};
 ghost use Rattle.arr_law.specs.ProblemOf.{problem_of};
+ghost use Rattle.arr_law.specs.declared.fact.Fact.{Fact};
 ghost use Rattle.arr_law.specs.declared.fact.Fact.TheVariants.{Apart, Same};
+ghost use Rattle.arr_state.specs.Known.{AreOps};
 ghost use Rattle.arr_state.specs.States.{Saturated, known};
 
 use crate::NoMemory;
@@ -94,10 +96,11 @@ impl State {
 
     /// Appends steps to the records of a tree, at most `budget`, each of which applies and gives the next new fact, until no rule gives one
     /// (`Closed`), both Same and Apart of a pair are known (`Contradiction`), or the budget is spent and a further rule applies (`Spent`).
-    /// `Contradiction` is answered wherever such a pair is known at the end. Facts are worked off first come, first served. Where memory is
-    /// wanting, an error (docs/CERTIFICATES.md, "Derivation").
+    /// `Contradiction` is answered wherever such a pair is known at the end. All that is known then is of operations of the list. Facts are worked
+    /// off first come, first served. Where memory is wanting, an error (docs/CERTIFICATES.md, "Derivation").
     pub fn saturate(&mut self, budget: u64, tree: &mut Records) -> Result<Outcome, NoMemory>
         ensures list { self.new.list ≡ self.old.list }
+        ensures about { (x : Fact) → IsTrue (known self.new x) → AreOps (problem_of self.new.list) x }
         ensures does { IfOk result (λ outcome. Saturated (problem_of self.old.list) budget self.old.trail self.new.trail tree.old tree.new outcome) }
     {
         saturate(

@@ -1,4 +1,5 @@
-use Rattle.std.proofs.Common.{sym}
+use Rattle.std.proofs.Common.{sym, ap, ◌∙◌, ◌++◌, ◌∷◌, []}
+use Rattle.arr_law.specs.declared.record.Record.TheVariants.{Step}
 use Rattle.arr_law.specs.Facts.{facts_of}
 use Rattle.arr_law.specs.ProblemOf.{problem_of}
 use Rattle.arr_state.specs.Jobs.{Tried}
@@ -29,10 +30,10 @@ add-requires-clause-new c =
 pub returns-in-Some-clash_at-clause-went : goal.returns-in-Some-clash_at-clause-went
 returns-in-Some-clash_at-clause-went c =
     let L = problem_of c.args.ops.now in
-    went_clash L c.args.known.now c.args.tree.now c.args.left c.args.rule c.args.f c.args.g c.args.h c.in-Some.fact (sym c.in-Some.ensures) c.add.new.known c.push.new.self c.in_ok-add-in-Some.ensures.is c.in_ok-push-in-Some.ensures.ok c.if-left-eq0.false
+    went_clash L c.args.known.now c.args.tree.now c.args.left c.args.rule c.args.f c.args.g c.args.h c.in-Some.fact (sym c.in-Some.ensures) c.add.new.known c.push.new.self c.in_ok-add-in-Some.ensures.is (c.in_ok-push-in-Some.ensures.ok ∙ ap (λ h. c.args.tree.now ++ Step c.args.rule c.args.f c.args.g h ∷ []) c.third_of.ensures) c.if-left-eq0.false
     c.in-Some-clash_at.x c.in-Some-clash_at.y (Tried L c.args.rule c.args.f c.args.g c.args.h) c.in-Some-clash_at.ensures
 
 pub returns-in-None-clash_at-clause-went : goal.returns-in-None-clash_at-clause-went
 returns-in-None-clash_at-clause-went c =
     let L = problem_of c.args.ops.now in
-    went_on L c.args.known.now c.args.tree.now c.args.left c.args.rule c.args.f c.args.g c.args.h c.in-Some.fact (sym c.in-Some.ensures) c.add.new.known c.push.new.self c.in_ok-add-in-Some.ensures.is c.in_ok-push-in-Some.ensures.ok c.if-left-eq0.false
+    went_on L c.args.known.now c.args.tree.now c.args.left c.args.rule c.args.f c.args.g c.args.h c.in-Some.fact (sym c.in-Some.ensures) c.add.new.known c.push.new.self c.in_ok-add-in-Some.ensures.is (c.in_ok-push-in-Some.ensures.ok ∙ ap (λ h. c.args.tree.now ++ Step c.args.rule c.args.f c.args.g h ∷ []) c.third_of.ensures) c.if-left-eq0.false
