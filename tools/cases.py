@@ -575,14 +575,38 @@ UNKNOWN = [
     [],
     ['Run'],
     ['run', 'run'],
-    ['run', '--cert'],
     ['run', '--plan', '--cert'],
-    ['run', '--fuse=best'],
-    ['run', '--fuse=greedy', '--plan'],
+    ['run', '--cert', '--plan'],
     ['run', '--plan', '--plan'],
+    ['run', '--cert', '--cert'],
+    ['run', '--plan=1'],
+    ['run', '--fuse='],
+    ['run', '--fuse=Best'],
+    ['run', '--fuse', 'best'],
+    ['run', '--fuse=greedy', '--plan'],
+    ['run', '--fuse=best', '--cert'],
     ['run', '--fuse=linear', '--fuse=linear'],
+    ['run', '--fuse=best', '--fuse=best'],
     ['run', '--fuse=linear', '--budget=1'],
-    ['run', '--budget=0'],
+    ['run', '--fuse=greedy', '--budget=200000'],
+    ['run', '--plan', '--fuse=greedy', '--budget=0'],
+    ['run', '--cert', '--fuse=linear'],
+    ['run', '--cert', '--fuse=greedy'],
+    ['run', '--budget=1', '--budget=1'],
+    ['run', '--budget=1', '--fuse=best'],
+    ['run', '--budget=1', '--plan'],
+    ['run', '--budget', '1'],
+    ['run', '--budget'],
+    ['run', '--budget='],
+    ['run', '--budget=+1'],
+    ['run', '--budget=-1'],
+    ['run', '--budget= 1'],
+    ['run', '--budget=1x'],
+    ['run', '--budget=x1'],
+    ['run', '--budget=4000001'],
+    ['run', '--budget=04000001'],
+    ['run', '--budget=18446744073709551616'],
+    ['run', '--fuse=best', '--budget=1', 'x'],
     ['check'],
     ['check', 'x', 'y'],
     ['Check', 'x'],
@@ -654,4 +678,61 @@ CHECKS = [
     (CHECKED, ["!flush 1 7 2", *PROOF[1:4], "!step 9 2 6", "!step 6 6 3 2", *PROOF[5:]], rejected(5, "BadStep")),
     (CHECKED, ["!" + "x" * 65536], rejected(1, "Malformed")),
     ("a = $\n", PROOF, "refused 1:5 BadByte\n"),
+]
+
+
+# ---- the planner best
+
+CHAINED = (
+    "# flush 1 recorded 1 rewritten 1 blocks 1 cost 32\n# op 1 RANGE +b0:i64@0[4:1]\n# block 1 cost 32 ops 1\n# bound 32 units 0 optimal\n",
+    "# flush 2 recorded 6 rewritten 6 blocks 1 cost 32\n# op 1 ADD +b1:i64@0[4:1] b0:i64@0[4:1] 1\n# op 2 MULTIPLY +b2:i64@0[4:1] b1:i64@0[4:1] 2\n# op 3 FREE b1\n"
+    "# op 4 SYNC b2:i64@0[4:1] slot=1\n# op 5 FREE b0\n# op 6 FREE b2\n# block 1 cost 32 ops 1 2 3 4 5 6\n# bound 32 units 0 optimal\n",
+    "i64 4\n2 4 6 8\n",
+)
+SUMMED = (
+    "# flush 1 recorded 7 rewritten 7 blocks 2 cost 16\n# op 1 IDENTITY +b0:i64@0[1:0] 7\n# op 2 ADD_REDUCE +b1:i64@0[1:0] b0:i64@0[1:0] axis=0\n"
+    "# op 3 ADD +b2:i64@0[1:0] b1:i64@0[1:0] 1\n# op 4 SYNC b2:i64@0[1:0] slot=1\n# op 5 FREE b0\n# op 6 FREE b1\n# op 7 FREE b2\n"
+    "# block 1 cost 8 ops 1 2 5\n# block 2 cost 8 ops 3 4 6 7\n"
+)
+LONG = "a = range(1)\n" + "a[:] = a + 1\n" * 254 + "b = a + 1 + 1\nprint b\n"
+LONG_PLANS = (
+    "# flush 1 recorded 256 rewritten 256 blocks 1 cost 16\n# op 1 RANGE +b0:i64@0[1:0]\n"
+    + "".join(f"# op {k} ADD b0:i64@0[1:0] b0:i64@0[1:0] 1\n" for k in range(2, 256))
+    + "# op 256 ADD +b1:i64@0[1:0] b0:i64@0[1:0] 1\n# block 1 cost 16 ops " + " ".join(str(k) for k in range(1, 257)) + "\n# bound 16 units 0 optimal\n"
+    + "# flush 2 recorded 5 rewritten 5 blocks 1 cost 8\n# op 1 ADD +b2:i64@0[1:0] b1:i64@0[1:0] 1\n# op 2 FREE b1\n# op 3 SYNC b2:i64@0[1:0] slot=1\n# op 4 FREE b0\n# op 5 FREE b2\n"
+    + "# block 1 cost 8 ops 1 2 3 4 5\n# bound 8 units 0 optimal\ni64 1\n256\n"
+)
+
+# Words behind `run`, scripts, and all that is written.
+BEST = [
+    (["--plan"], OTHER, "".join(CHAINED)),
+    (["--plan", "--fuse=best"], OTHER, "".join(CHAINED)),
+    (["--plan", "--budget=0"], OTHER, "".join(CHAINED)),
+    (["--plan", "--fuse=best", "--budget=" + "0" * 40], OTHER, "".join(CHAINED)),
+    (["--cert"], OTHER,
+     CHAINED[0] + "!flush 1 1 2\n!plan 1\n!cost 32\n!bound 32\n!worth 1.0\n!end\n"
+     + CHAINED[1] + "!flush 2 6 2\n!plan 1 1 1 1 1 1\n!cost 32\n!bound 32\n!worth 1.1\n!end\n" + CHAINED[2]),
+    (["--plan", "--budget=0"], CHECKED, SUMMED + "# bound 8 units 0 budget\ni64 1\n8\n"),
+    (["--plan", "--budget=007"], "", ""),
+    (["--cert", "--budget=4000000"], "flush\n", ""),
+    (["--plan"], "x = range(4)\ny = x * 0 + 0\nprint y\n",
+     "# flush 1 recorded 7 rewritten 3 blocks 1 cost 0\n# op 1 IDENTITY +b2:i64@0[4:1] 0\n# op 2 SYNC b2:i64@0[4:1] slot=1\n# op 3 FREE b2\n"
+     "# block 1 cost 0 ops 1 2 3\n# bound 0 units 0 optimal\ni64 4\n0 0 0 0\n"),
+    (["--plan"], LONG, LONG_PLANS),
+]
+
+# Words behind `run`, scripts, their one bound line up to the units and behind them, and the least and the most units.
+UNITS = [
+    (["--plan"], CHECKED, "# bound 16 units ", " optimal", 1, 200000),
+    (["--plan", "--budget=147"], CHECKED, "# bound 16 units ", " optimal", 1, 147),
+    (["--plan", "--budget=0"], CHECKED, "# bound 8 units ", " budget", 0, 0),
+]
+
+# Words behind `run --cert`, scripts, and what `check` says of all that is written then.
+CERTIFIED = [
+    ([], "", "accepted 0\n"),
+    ([], OTHER, "flush 1 cost 32 bound 32 optimal\nflush 2 cost 32 bound 32 optimal\naccepted 2\n"),
+    (["--fuse=best"], CHECKED, "flush 1 cost 16 bound 16 optimal\naccepted 1\n"),
+    (["--budget=0"], CHECKED, "flush 1 cost 16 bound 8 budget\naccepted 1\n"),
+    ([], LONG, "flush 1 cost 16 bound 16 optimal\nflush 2 cost 8 bound 8 optimal\naccepted 2\n"),
 ]

@@ -182,17 +182,38 @@ def judge_picture():
         judge("docs/plan.svg", drawn.read(), report.picture(report.read_listing(listing.read().split("\n"))[0]) + "\n")
 
 
+def judge_bounds():
+    """The units of a search lie between two numbers."""
+    for words, script, before, behind, least, most in cases.UNITS:
+        status, found = run(script, ("run", *words))
+        units = [line[len(before):-len(behind)] for line in found.split("\n") if line.startswith(before) and line.endswith(behind)]
+        judge(f"cases: units of {words} {script!r}", (0, [True]), (status, [least <= int(u) <= most for u in units]))
+
+
+def judge_certificates():
+    """What a run writes with its certificates is a proof that is accepted."""
+    with tempfile.TemporaryDirectory() as folder:
+        path = os.path.join(folder, "proof")
+        for words, script, wanted in cases.CERTIFIED:
+            status, written = run(script, ("run", "--cert", *words))
+            with open(path, "w", newline="") as file:
+                file.write(written)
+            judge(f"cases: certified {words} {script[:200]!r}", (0, (0, wanted)), (status, run(script, ("check", path))))
+
+
 def judge_cases():
     for script, wanted in cases.ARRAYS + cases.REFUSALS + cases.SLICES + cases.TEXTS + cases.LIMITS:
         judge_script(f"cases: {script[:200]!r}", script, wanted)
-    for words, script, wanted in cases.PLANS:
-        judge_script(f"cases: {words} {script!r}", script, wanted, ["run", *words])
+    for words, script, wanted in cases.PLANS + cases.BEST:
+        judge_script(f"cases: {words} {script[:200]!r}", script, wanted, ["run", *words])
     for words in cases.UNKNOWN:
         judge(f"cases: {words}", (2, USAGE), run("", words))
     for text in cases.SENTENCES:
         judge_sentence(text)
     judge_numbers()
     judge_checks()
+    judge_bounds()
+    judge_certificates()
 
 
 def main():

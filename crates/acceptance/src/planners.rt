@@ -9,6 +9,7 @@ use arr_io::SureSource;
 use arr_law::{Certificate, Charge, Charges, OpList, Places, Record, Records};
 use arr_num::{Code, Elem};
 use arr_ops::{Op, Operand, list_formed};
+use arr_search::search;
 use arr_sets::{OpSet, Rows};
 use arr_view::View;
 use std::test::Fail;
@@ -39,6 +40,19 @@ fn lists_are_planned(rt: HostRuntime) -> Result<(), Fail> {
     let costs = Costs::of(alloc, &list)?;
     assert_eq!(rt; linear(alloc, &graph)?.blocks.len(), 1);
     assert_eq!(rt; greedy(alloc, &graph, &costs)?.blocks.len(), 1);
+    Ok(())
+}
+
+#[test]
+fn lists_are_searched(rt: HostRuntime) -> Result<(), Fail> {
+    let alloc = rt.alloc();
+    let list = [one_more(0, 1)?, one_more(1, 2)?];
+    assert!(rt; list_formed(&list));
+    let graph = Graph::of(alloc, &list)?;
+    let costs = Costs::of(alloc, &list)?;
+    let found = search(alloc, &graph, &costs, 1, 100)?;
+    assert_eq!(rt; (found.plan.blocks.len(), found.units), (1, 0));
+    assert_eq!(rt; (found.cost, found.bound), (72, 72));
     Ok(())
 }
 

@@ -76,6 +76,40 @@ fn plans_are_listed(rt: HostRuntime) -> Result<(), Fail> {
     Ok(())
 }
 
+const PRINTED: &str = "print range(1)\n";
+
+const CERTIFIED: &str =
+    "# flush 1 recorded 3 rewritten 3 blocks 1 cost 0\n# op 1 RANGE +b0:i64@0[1:0]\n# op 2 SYNC b0:i64@0[1:0] slot=1\n# op 3 FREE b0\n# block 1 cost 0 ops 1 2 3\n# bound 0 units 0 optimal\n!flush 1 3 2\n!plan 1 1 1\n!cost 0\n!bound 0\n!worth\n!end\ni64 1\n0\n";
+
+#[test]
+fn certificates_are_written_and_accepted(rt: HostRuntime) -> Result<(), Fail> {
+    let alloc = rt.alloc();
+    let words = ["run", "--cert", "--fuse=best", "--budget=0"];
+    let ran = run(alloc, &words, PRINTED.as_bytes(), 0, 4096, 0)?;
+    assert_eq!(rt; ran.status, 0);
+    assert_eq!(rt; ran.written.as_slice(), CERTIFIED.as_bytes());
+    let checked = check(alloc, PRINTED.as_bytes(), &ran.written, 4096, 0)?;
+    assert_eq!(rt; checked.status, 0);
+    assert_eq!(rt;
+        checked.written.as_slice(),
+        b"flush 1 cost 0 bound 0 optimal\naccepted 1\n".as_slice()
+    );
+    Ok(())
+}
+
+#[test]
+fn each_writing_fault_cuts_a_certificate(rt: HostRuntime) -> Result<(), Fail> {
+    let alloc = rt.alloc();
+    let text = CERTIFIED.as_bytes();
+    // A byte at each call.
+    for fails in 1..=text.len() {
+        let ran = run(alloc, &["run", "--cert"], PRINTED.as_bytes(), 0, 1, fails as u64)?;
+        assert_eq!(rt; ran.status, 4, "write {fails}");
+        assert_eq!(rt; ran.written.as_slice(), &text[..fails - 1], "write {fails}");
+    }
+    Ok(())
+}
+
 const SUMMED: &str = "a = full([1], 7, i64)\nb = sum(a, 0)\nc = b + 1\nprint c\n";
 
 const PROVED: &str =
@@ -144,6 +178,8 @@ fn other_words_get_the_usage_line(rt: HostRuntime) -> Result<(), Fail> {
     are_unknown(&rt, alloc, &["Run"])?;
     are_unknown(&rt, alloc, &["run", "run"])?;
     are_unknown(&rt, alloc, &["run", "--plan", "--cert"])?;
+    are_unknown(&rt, alloc, &["run", "--cert", "--fuse=greedy"])?;
+    are_unknown(&rt, alloc, &["run", "--budget=4000001"])?;
     are_unknown(&rt, alloc, &["run", "--fuse=linear", "--plan"])?;
     are_unknown(&rt, alloc, &["check"])?;
     are_unknown(&rt, alloc, &["demo", "x"])?;

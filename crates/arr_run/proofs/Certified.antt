@@ -1,5 +1,5 @@
 -- What the lines of a verdict say of the lists that were planned.
-use Rattle.std.proofs.Common.{◌≡◌, ◌⊎◌, ⊎_elim, ℕ, suc, List, [], ◌∷◌, ◌++◌, length, map, refl, ap, sym, ◌∙◌, subst, arith, Option, Some, None, Ok, true, append-nil, append_assoc}
+use Rattle.std.proofs.Common.{◌≡◌, ◌⊎◌, ⊎_elim, ℕ, suc, List, [], ◌∷◌, ◌++◌, map, refl, ap, sym, ◌∙◌, subst, arith, Option, Some, None, true, append-nil, append_assoc}
 use Rattle.std.specs.List.{list_all}
 use Rattle.std.specs.Io.KnownBytes.{Appends}
 use Rattle.arr_ops.specs.declared.op.Op.{Op}
@@ -14,11 +14,9 @@ use Rattle.arr_record.proofs.Walk.{all_parts}
 use Rattle.arr_rewrite.specs.NormalForm.{normal_form}
 use Rattle.arr_rewrite.proofs.Laws.{normal_formed}
 use Rattle.arr_law.specs.ProblemOf.{problem_of}
-use Rattle.arr_law.specs.Problem.{Problem}
 use Rattle.arr_law.specs.Verdict.{Answer, Yes, No, AtHead, Reading, Verdict, answer, last_verdict, left_fault, verdict_from, with_answer}
 use Rattle.arr_law.specs.declared.reject.Reject.{Reject}
 use Rattle.arr_law.proofs.Lists.{yes_certifies}
-use Rattle.arr_store.specs.Stored.{Stored}
 use Rattle.arr_run.specs.declared.words.Command.TheVariants.{Check}
 use Rattle.arr_run.specs.Answers.{Answer as Reply, Given, IsCheck, answer_status, answer_text, check_verdict, checked, is_final, refused}
 use Rattle.arr_run.specs.Checked.{AreBounds, bounds_of, lists_of}

@@ -1,5 +1,5 @@
 -- One flush: what its normal form leaves and prints, and where its text may be cut.
-use Rattle.std.proofs.Common.{Result, Ok, Err, OnOk, OnErr, ◌≡◌, ◌+◌, ◌<◌, ◌≤◌, ◌^◌, ℕ, List, length, take, true, refl, ap, sym, ◌∙◌, subst, arith, Option, None, length-append}
+use Rattle.std.proofs.Common.{Result, Ok, Err, OnOk, OnErr, ◌≡◌, ◌+◌, ◌<◌, ◌≤◌, ◌^◌, ℕ, List, ◌++◌, length, map, take, true, refl, ap, sym, ◌∙◌, subst, arith, Option, None, length-append}
 use Rattle.std.proofs.KnownBytes.{Appends-trans}
 use Rattle.std.proofs.Math.Seq.{take-append-add}
 use Rattle.std.proofs.lemmas.List.{take-append-le}
@@ -7,7 +7,9 @@ use Rattle.std.specs.List.{flat_map}
 use Rattle.std.specs.Io.KnownBytes.{Appends}
 use Rattle.arr_io.specs.Taken.{AppendsPart}
 use Rattle.arr_elab.specs.Steps.{printed}
+use Rattle.arr_listing.specs.Plans.{plan_text}
 use Rattle.arr_listing.specs.Texts.{array_text}
+use Rattle.arr_ops.specs.Costs.{block_cost, cost}
 use Rattle.arr_ops.specs.declared.op.Op.{Op}
 use Rattle.arr_ops.specs.Fits.{fits}
 use Rattle.arr_ops.specs.Formed.{is_formed}
@@ -18,7 +20,8 @@ use Rattle.arr_store.specs.Stored.{Stored, memory_of}
 use Rattle.arr_run.specs.declared.flush.RunFault.{RunFault}
 use Rattle.arr_run.specs.declared.flush.RunFault.TheVariants.{WriteFault, NoMemory}
 use Rattle.arr_run.specs.Parts.{AppendsFront, CutIn, OnRan, RisesBy, Wrote}
-use Rattle.arr_run.specs.Pieces.{Segment}
+use Rattle.arr_run.specs.declared.planning.Planned.{Planned}
+use Rattle.arr_run.specs.Pieces.{Segment, bound_line, plan_lines, planned_lines}
 use Rattle.arr_run.specs.Shown.{AllShow, slots_text}
 use Rattle.arr_run.proofs.Printed.{formed_show, formed_text}
 use Rattle.arr_run.proofs.Rewritten.{Kept, normal_kept, printed_same}
@@ -50,6 +53,14 @@ stands m ops list is formed fit =
 -- what the rewritten list leaves
 pub leaves_same : (m : Memory) (ops list : List Op) (after : Stored) → Stands m ops list → (memory_of after).bases ≡ (eager m list).bases → memory_of after ≡ without_slots (eager m ops)
 leaves_same m ops list after s e = let b = e ∙ ap (λ (k : Memory). k.bases) s.same in λ i. record { bases = b i; slots = λ n. None }
+
+-- ---- what is listed
+
+pub planned_text : (number recorded price : ℕ) (ops list : List Op) (costs : List ℕ) (p : Planned) → recorded ≡ length ops → list ≡ normal_form ops → costs ≡ map (block_cost (normal_form ops)) p.plan → price ≡ cost (normal_form ops) p.plan
+    → plan_text recorded number list p.plan costs ++ bound_line price p.bound p.units ≡ planned_lines number ops p
+planned_text number recorded price ops list costs p count normal priced sum =
+    ap (λ n. plan_text n number list p.plan costs ++ bound_line price p.bound p.units) count ∙ ap (λ l. plan_text (length ops) number l p.plan costs ++ bound_line price p.bound p.units) normal
+    ∙ ap (λ cs. plan_text (length ops) number (normal_form ops) p.plan cs ++ bound_line price p.bound p.units) priced ∙ ap (λ n. plan_lines number ops p.plan ++ bound_line n p.bound p.units) sum
 
 -- ---- a text that is cut
 

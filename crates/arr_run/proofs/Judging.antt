@@ -1,5 +1,5 @@
 -- A proof that is checked list by list.
-use Rattle.std.proofs.Common.{◌≡◌, ◌⊎◌, inl, inr, ⊎_elim, length-append, ℕ, suc, ◌+◌, ◌<◌, ◌≤◌, List, [], ◌∷◌, ◌++◌, length, map, take, drop, get_or, refl, ap, sym, ◌∙◌, subst, arith, Option, Some, None, Result, Ok, Err, append-nil, append_assoc, take_all}
+use Rattle.std.proofs.Common.{◌≡◌, ◌⊎◌, inl, inr, ⊎_elim, length-append, ℕ, suc, ◌+◌, ◌<◌, ◌≤◌, List, [], ◌∷◌, ◌++◌, length, map, take, drop, get_or, refl, ap, sym, ◌∙◌, subst, arith, Option, Some, None, Err, append-nil, append_assoc, take_all}
 use Rattle.std.proofs.KnownBytes.{Appends-nil, Appends-trans}
 use Rattle.std.proofs.lemmas.List.{drop_more, take-append-drop, take-append-le}
 use Rattle.std.specs.Io.KnownBytes.{Appends, prepend_known}
@@ -30,7 +30,7 @@ use Rattle.arr_run.proofs.Writes.{front_of_second, part_of_first, part_of_second
 
 -- ---- what was read
 
-onto_more : (front more : List (ℕ × Record)) (rest : Reading) → onto (front ++ more) rest ≡ onto front (onto more rest)
+pub onto_more : (front more : List (ℕ × Record)) (rest : Reading) → onto (front ++ more) rest ≡ onto front (onto more rest)
 onto_more [] more rest = refl
 onto_more (x ∷ front) more rest = ap (Reads x.0 x.1) (onto_more front more rest)
 

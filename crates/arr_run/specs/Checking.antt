@@ -1,12 +1,11 @@
 -- What checking has read of a proof and written, list by list.
-use Rattle.std.specs.Prelude.{ℕ, suc, ◌≡◌, ◌⊎◌, ◌≤◌, IsErrOf, List, [], ◌∷◌, ◌++◌, length, map, take, Option, Some, None, Result, Ok, Err}
+use Rattle.std.specs.Prelude.{ℕ, suc, ◌≡◌, ◌⊎◌, ◌≤◌, IsErrOf, List, [], length, map, take, Option, Result, Ok, Err}
 use Rattle.std.specs.Io.KnownBytes.{Appends}
 use Rattle.arr_io.specs.Causes.{Rose}
 use Rattle.arr_io.specs.Taken.{AppendsPart}
 use Rattle.arr_ops.specs.declared.op.Op.{Op}
 use Rattle.arr_record.specs.declared.part.Part.{Part}
 use Rattle.arr_law.specs.declared.record.Record.{Record}
-use Rattle.arr_law.specs.declared.reject.Reject.{Reject}
 use Rattle.arr_law.specs.ProblemOf.{problem_of}
 use Rattle.arr_law.specs.Verdict.{AtHead, Reading, Verdict, Accepted, Rejected, verdict_from}
 use Rattle.arr_cert.specs.Reading.{Unread}

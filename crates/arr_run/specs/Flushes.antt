@@ -1,29 +1,41 @@
 -- What one flush does.
-use Rattle.std.specs.Prelude.{◌≡◌, ◌+◌, true, List, length, map}
+use Rattle.std.specs.Prelude.{◌≡◌, ◌+◌, ℕ, List, length, map}
+use Rattle.std.specs.List.{flat_map}
 use Rattle.arr_ops.specs.declared.op.Op.{Op}
 use Rattle.arr_ops.specs.Costs.{block_cost, cost}
-use Rattle.arr_ops.specs.Plans.{is_legal}
+use Rattle.arr_ops.specs.Memory.{Memory}
+use Rattle.arr_elab.specs.Steps.{printed}
+use Rattle.arr_listing.specs.Texts.{array_text}
 use Rattle.arr_rewrite.specs.NormalForm.{normal_form}
 use Rattle.arr_store.specs.Stored.{Stored}
 use Rattle.arr_run.specs.declared.choice.Choice.{Choice}
 use Rattle.arr_run.specs.declared.flush.Report.{Report}
-use Rattle.arr_run.specs.declared.flush.Prepared.{Prepared}
-use Rattle.arr_run.specs.Pieces.{plan_by}
+use Rattle.arr_run.specs.declared.planning.Planned.{Planned}
+use Rattle.arr_run.specs.declared.planning.Prepared.{Prepared}
+use Rattle.arr_run.specs.Chosen.{IsPlanned}
+use Rattle.arr_run.specs.Pieces.{Segment, flush_head}
 
--- The normal form of a list, the planner's plan of it, what each block costs, and what all cost.
-pub record Prepares (choice : Choice) (list : List Op) (p : Prepared) : Type 0 where
+-- The normal form of a list, the plan that was chosen for it, what each block costs, and what all cost.
+pub record Prepares (choice : Choice) (number : ℕ) (list : List Op) (p : Prepared) : Type 0 where
   pub normal : p.list.items ≡ normal_form list
-  pub legal : is_legal (normal_form list) p.plan ≡ true
-  pub planned : p.plan ≡ plan_by choice.fuse (normal_form list)
-  pub costs : p.costs.items ≡ map (block_cost (normal_form list)) p.plan
-  pub cost : p.cost ≡ cost (normal_form list) p.plan
+  pub planned : IsPlanned choice number list p.planned
+  pub costs : p.costs.items ≡ map (block_cost (normal_form list)) p.planned.plan
+  pub cost : p.cost ≡ cost (normal_form list) p.planned.plan
 
--- What a report says: how many operations were recorded and are left, the plan, its blocks and cost, and by how much the counters rose.
-pub record Reports (choice : Choice) (list : List Op) (store after : Stored) (report : Report) : Type 0 where
+-- what a flush writes by the plan that was chosen for it
+abbrev pub flush_segment : Choice → ℕ → Memory → List Op → Planned → Segment
+flush_segment choice number m list p = record { head = flush_head choice.listing number list p; arrays = flat_map array_text (printed m list) }
+
+-- the plan of a report, and what best shows of it
+abbrev pub planned_in : Report → Planned
+planned_in report = record { plan = report.plan; bound = report.bound; units = report.units; certificate = report.certificate }
+
+-- What a report says: how many operations were recorded and are left, the plan that was chosen, its blocks and cost, and by how much the
+-- counters rose.
+pub record Reports (choice : Choice) (number : ℕ) (list : List Op) (store after : Stored) (report : Report) : Type 0 where
   pub recorded : report.recorded ≡ length list
   pub rewritten : report.rewritten ≡ length (normal_form list)
-  pub legal : is_legal (normal_form list) report.plan ≡ true
-  pub planned : report.plan ≡ plan_by choice.fuse (normal_form list)
+  pub planned : IsPlanned choice number list (planned_in report)
   pub blocks : report.blocks ≡ length report.plan
   pub cost : report.cost ≡ cost (normal_form list) report.plan
   pub loads : store.loads + report.loads ≡ after.loads

@@ -1,21 +1,27 @@
 -- What follows from the relation of `serve`, and how many parts stand in so many bytes.
-use Rattle.std.specs.Prelude.{◌≡◌, ◌≢◌, ◌⊎◌, ℕ, suc, ◌+◌, ◌-◌, ◌^◌, ◌<◌, ◌≤◌, List, ◌∷◌, ◌++◌, length, Option, Some}
+use Rattle.std.specs.Prelude.{◌≡◌, ◌≢◌, ◌⊎◌, ℕ, suc, ◌+◌, ◌-◌, ◌^◌, ◌<◌, ◌≤◌, true, List, [], ◌∷◌, ◌++◌, length, map, Option, Some}
 use Rattle.std.specs.List.{flat_map}
+use Rattle.std.specs.Option.{option_to_list}
 use Rattle.std.specs.Io.KnownBytes.{Appends}
 use Rattle.arr_elab.specs.Steps.{eager_arrays}
 use Rattle.arr_store.specs.Stored.{Stored}
 use Rattle.arr_run.specs.declared.words.Command.TheVariants.{Run, Check}
 use Rattle.arr_run.specs.declared.choice.Choice.{Choice}
-use Rattle.arr_run.specs.declared.choice.Listing.TheVariants.{Quiet}
+use Rattle.arr_run.specs.declared.choice.Fuse.TheVariants.{Best}
+use Rattle.arr_run.specs.declared.choice.Listing.TheVariants.{Quiet, Cert}
+use Rattle.arr_ops.specs.Costs.{cost}
+use Rattle.arr_record.specs.declared.part.Part.{Part}
+use Rattle.arr_record.specs.declared.part.Part.TheVariants.{Flush}
 use Rattle.arr_record.specs.Parts.{parts_of}
-use Rattle.arr_run.specs.Answers.{Blames, Given, IsCheck, IsRun, IsWhole, Serves, check_verdict, run_text}
-use Rattle.arr_run.specs.Checked.{AreBounds, bounds_of, lists_of, verdict_status, verdict_text}
-use Rattle.arr_run.specs.Pieces.{Segment, ran, segment_text}
+use Rattle.arr_rewrite.specs.NormalForm.{normal_form}
+use Rattle.arr_run.specs.Answers.{Blames, Given, IsCheck, IsRun, IsWhole, Serves, check_verdict, is_final, run_text}
+use Rattle.arr_run.specs.Checked.{AreBounds, accepted_line, bounds_of, flush_lines, lists_of, most_proof, verdict_status, verdict_text}
+use Rattle.arr_run.specs.Pieces.{Pieces, PlannedPart, Segment, number_behind, ran, segment_text}
 use Rattle.arr_listing.specs.Texts.{array_text}
 
 -- ---- what a status says
 
--- The text of a whole run was written: for each part in turn its head, which for a flush are its plan lines or nothing, and its share of the
+-- The text of a whole run was written: for each part in turn its head, which for a flush is what is listed of it, and its share of the
 -- eager arrays. Where plans are not listed these arrays are all of it.
 pub record PrintsRun (choice : Choice) (script : List ℕ) (old new : Option (List ℕ)) : Type 0 where
   pub run : IsRun choice script
@@ -57,6 +63,50 @@ abbrev pub ChecksCertify : Type 0
 ChecksCertify =
     (script : List ℕ) (proof old new : Option (List ℕ)) (status : ℕ) (store after : Stored) → (status ≡ 0) ⊎ (status ≡ 6)
     → Serves (Some Check) (Some script) proof status old new store after → ChecksProof script proof status old new
+
+-- ---- what a run that was cut short is a front of
+
+-- Some whole run of the script writes what this one does, and then more or nothing.
+pub record GoesOn {choice : Choice} {script : List ℕ} (r : IsRun choice script) : Type 0 where
+  pub run : IsRun choice script
+  pub whole : IsWhole run
+  pub more : List ℕ
+  pub text : run_text run ≡ run_text r ++ more
+
+-- with linear and greedy each run goes on to a whole one
+abbrev pub RunsGoOn : Type 0
+RunsGoOn = (choice : Choice) (script : List ℕ) (r : IsRun choice script) → choice.fuse ≢ Best → GoesOn r
+
+-- ---- what `check` says of what `run` wrote
+
+-- cost and bound of the plan of a part, if it has a bound
+abbrev pub bound_in : (choice : Choice) (number : ℕ) (part : Part) → PlannedPart choice number part → List (ℕ × ℕ)
+bound_in choice number (Flush list) planned = map (λ bound. (cost (normal_form list) planned.0.plan, bound)) (option_to_list planned.0.bound)
+bound_in choice number _ planned = []
+
+-- those of parts, the next flush having this number
+abbrev pub bounds_in : (choice : Choice) (number : ℕ) (parts : List Part) → Pieces choice number parts → List (ℕ × ℕ)
+bounds_in choice number [] pieces = []
+bounds_in choice number (part ∷ parts) pieces = bound_in choice number part pieces.0.planned ++ bounds_in choice (number_behind part number) parts pieces.1
+
+abbrev pub run_bounds : {choice : Choice} {script : List ℕ} → IsRun choice script → List (ℕ × ℕ)
+run_bounds {choice} r = bounds_in choice 1 r.parts r.pieces
+
+-- The output is the text of a whole run, and the lines of an accepted proof were written, with the cost and the bound of each of its plans.
+pub record AcceptsRun (choice : Choice) (script output : List ℕ) (status : ℕ) (old new : Option (List ℕ)) : Type 0 where
+  pub run : IsRun choice script
+  pub whole : IsWhole run
+  pub output_is : output ≡ run_text run
+  pub accepted : status ≡ 0
+  pub wrote : Appends old new (flush_lines 1 (run_bounds run) ++ accepted_line (length (run_bounds run)))
+
+-- what `run --cert` wrote with the planner best is accepted by `check`, where it has no more bytes than a proof may have
+abbrev pub RunsCheck : Type 0
+RunsCheck =
+    (choice : Choice) (script output : List ℕ) (proof : Option (List ℕ)) (store after : Stored) → choice.fuse ≡ Best → choice.listing ≡ Cert
+    → Serves (Some (Run choice)) (Some script) proof 0 (Some []) (Some output) store after → length output ≤ most_proof
+    → (status : ℕ) (old new : Option (List ℕ)) (kept now : Stored) → is_final status ≡ true
+    → Serves (Some Check) (Some script) (Some output) status old new kept now → AcceptsRun choice script output status old new
 
 -- where no count of faults changed, no fault is answered
 abbrev pub FaultsAreCounted : Type 0

@@ -1,5 +1,6 @@
 pub mod Words
 pub mod Texts
+pub mod Chosen
 pub mod Pieces
 pub mod Checked
 pub mod Answers

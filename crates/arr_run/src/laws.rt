@@ -1,5 +1,5 @@
 //! What follows from the contract of [`serve`](crate::serve). Each function does nothing: its contract is the law.
-ghost use Rattle.arr_run.specs.Laws.{ChecksCertify, FaultsAreCounted, PrintsEagerly, RanInArrays, RanInHead, RanWhole, RefusalKeepsStore, RunIsKnown};
+ghost use Rattle.arr_run.specs.Laws.{ChecksCertify, FaultsAreCounted, PrintsEagerly, RanInArrays, RanInHead, RanWhole, RefusalKeepsStore, RunIsKnown, RunsCheck, RunsGoOn};
 
 /// What the statuses of `run` say, taken from the relation `Serves` alone (docs/LANGUAGE.md, "The program"): at 0 the script is
 /// accepted, and the text of a whole run of it was written: plan lines, where they are listed, and its eager arrays, and where no plans are
@@ -15,6 +15,19 @@ pub fn statuses_say()
 /// than the bound (docs/CERTIFICATES.md, "What a yes means").
 pub fn checks_certify()
     ensures { ChecksCertify }
+{}
+
+/// What `run --cert` wrote with the planner best is a proof that `check` accepts for the same script, flush by flush with the cost and the bound
+/// of the plan that was listed, as long as it has at most 67,108,864 bytes: taken from the relation `Serves` of both calls alone
+/// (docs/CERTIFICATES.md, "The words").
+pub fn runs_check()
+    ensures { RunsCheck }
+{}
+
+/// A run with the planner linear or greedy of which some parts alone were begun is a front of a whole run of the script: so what was written
+/// where a write failed or memory was wanting is a front of a text that status 0 allows.
+pub fn runs_go_on()
+    ensures { RunsGoOn }
 {}
 
 /// Over sources and a sink whose counts of faults don't change, as those that never fail, `serve` answers neither 3 nor 4.

@@ -16,8 +16,10 @@
 mod checking;
 mod choice;
 mod flush;
+mod head;
 mod laws;
 mod parts;
+mod planning;
 mod program;
 mod script;
 mod texts;
@@ -25,6 +27,8 @@ mod words;
 
 pub use choice::{Choice, Fuse, Listing};
 pub use flush::{Report, RunFault, flush_once};
-pub use laws::{checks_certify, faults_are_counted, parts_are_counted, statuses_say};
+pub use laws::{
+    checks_certify, faults_are_counted, parts_are_counted, runs_check, runs_go_on, statuses_say,
+};
 pub use program::serve;
 pub use words::Command;

@@ -8,8 +8,8 @@ ghost use Rattle.arr_record.specs.declared.part.Part.TheVariants.{Flush};
 ghost use Rattle.arr_ops.specs.Gathers.{gather_fits, gathered, is_gather, is_scatter, scatter_fits, scattered};
 ghost use Rattle.arr_record.specs.Runs.{after_part, after_parts, each_fits, is_part, part_fits};
 ghost use Rattle.arr_store.specs.Stored.{memory_of};
-ghost use Rattle.arr_run.specs.Parts.{Caused, CountsBelow, CutIn, RisesBy, StoppedIn, Wrote, parts_text, segment_at};
-ghost use Rattle.arr_run.specs.Pieces.{number_behind, segment_text};
+ghost use Rattle.arr_run.specs.Parts.{BrokeIn, Caused, CountsBelow, PartBroke, PartStopped, PartWrote, PartsWrote, RisesBy, StoppedIn};
+ghost use Rattle.arr_run.specs.Pieces.{number_behind};
 
 use crate::choice::Choice;
 use crate::flush::{RunFault, flush_once};
@@ -75,14 +75,14 @@ fn run_flush<K: Sink>(
     requires fitting { fits (memory_of store.old) ops.now ≡ true }
     requires few { length ops.now ≤ 256 }
     requires counts { CountsBelow (2 ^ 60) store.old }
-    ensures wrote { Wrote result (K.written sink.old) (K.written sink.new)
-        (segment_text (segment_at choice number (memory_of store.old) (Flush ops.now))) }
+    ensures wrote { OnOk result (PartWrote choice number (memory_of store.old) (Flush ops.now) (K.written sink.old) (K.written sink.new)) }
     ensures cause { Caused (K.faults sink.old) (K.faults sink.new) result }
     ensures memory { OnOk result (memory_of store.new ≡ without_slots (eager (memory_of store.old) ops.now)) }
     ensures counts { OnOk result (RisesBy (2 ^ 32) store.old store.new) }
-    ensures stopped { IsErrOf result RunFault.WriteFault
-        → CutIn (segment_at choice number (memory_of store.old) (Flush ops.now)) (without_slots (eager (memory_of store.old) ops.now))
+    ensures stopped { IsErrOf result RunFault.WriteFault → PartStopped choice number (memory_of store.old) (Flush ops.now)
         (K.written sink.old) (K.written sink.new) store.old store.new }
+    ensures broke { IsErrOf result RunFault.NoMemory → PartBroke choice number (memory_of store.old) (Flush ops.now)
+        (K.written sink.old) (K.written sink.new) }
 {
     flush_once(alloc, store, number, ops, choice, sink)?;
     Ok(())
@@ -100,14 +100,14 @@ fn run_part<K: Sink>(
     requires part { is_part part.now ≡ true }
     requires fitting { part_fits (memory_of store.old) part.now ≡ true }
     requires counts { CountsBelow (2 ^ 60) store.old }
-    ensures wrote { Wrote result (K.written sink.old) (K.written sink.new)
-        (segment_text (segment_at choice number (memory_of store.old) part.now)) }
+    ensures wrote { OnOk result (PartWrote choice number (memory_of store.old) part.now (K.written sink.old) (K.written sink.new)) }
     ensures cause { Caused (K.faults sink.old) (K.faults sink.new) result }
     ensures memory { OnOk result (memory_of store.new ≡ after_part (memory_of store.old) part.now) }
     ensures counts { OnOk result (RisesBy (2 ^ 32) store.old store.new) }
-    ensures stopped { IsErrOf result RunFault.WriteFault
-        → CutIn (segment_at choice number (memory_of store.old) part.now) (after_part (memory_of store.old) part.now)
+    ensures stopped { IsErrOf result RunFault.WriteFault → PartStopped choice number (memory_of store.old) part.now
         (K.written sink.old) (K.written sink.new) store.old store.new }
+    ensures broke { IsErrOf result RunFault.NoMemory → PartBroke choice number (memory_of store.old) part.now
+        (K.written sink.old) (K.written sink.new) }
 {
     match part {
         Part::Flush(ops) => run_flush(alloc, choice, number, ops.list(), store, sink),
@@ -128,12 +128,14 @@ pub(crate) fn run_parts<K: Sink>(
     requires fitting { each_fits (memory_of store.old) parts.now ≡ true }
     requires few { length parts.now ≤ 4_194_304 }
     requires counts { CountsBelow (2 ^ 59) store.old }
-    ensures wrote { Wrote result (K.written sink.old) (K.written sink.new) (parts_text choice 1 (memory_of store.old) parts.now) }
+    ensures wrote { OnOk result (PartsWrote choice (memory_of store.old) parts.now (K.written sink.old) (K.written sink.new)) }
     ensures cause { Caused (K.faults sink.old) (K.faults sink.new) result }
     ensures memory { OnOk result (memory_of store.new ≡ after_parts (memory_of store.old) parts.now) }
     ensures counts { OnOk result (RisesBy (length parts.now * 2 ^ 32) store.old store.new) }
     ensures stopped { IsErrOf result RunFault.WriteFault
-        → StoppedIn choice 1 (memory_of store.old) parts.now (K.written sink.old) (K.written sink.new) store.old store.new }
+        → StoppedIn choice (memory_of store.old) parts.now (K.written sink.old) (K.written sink.new) store.old store.new }
+    ensures broke { IsErrOf result RunFault.NoMemory
+        → BrokeIn choice (memory_of store.old) parts.now (K.written sink.old) (K.written sink.new) }
 {
     let mut number = 1;
     for part in parts {

@@ -9,7 +9,7 @@ ghost use Rattle.std.specs.Io.KnownBytes.{IsAtEnd};
 ghost use Rattle.arr_store.specs.Stored.{Stored, cells, memory_of};
 ghost use Rattle.arr_run.specs.Answers.{Accepts, Blames, Finishes, HasRead, IsReadOut, Serves, is_final};
 ghost use Rattle.arr_run.specs.Checking.{Judges};
-ghost use Rattle.arr_run.specs.Parts.{CountsBelow, Ended, RisesBy, StoppedIn, parts_text};
+ghost use Rattle.arr_run.specs.Parts.{BrokeIn, CountsBelow, Ended, PartsWrote, RisesBy, StoppedIn};
 ghost use Rattle.arr_run.specs.Texts.{refusal_text};
 ghost use Rattle.arr_run.specs.Words.{command_of};
 
@@ -47,14 +47,14 @@ const REJECTED: u8 = 6;
 /// and the listing that the words behind it choose; the proof isn't read. `check FILE` checks the certificates that `proof` gives against the
 /// flushes of the script; the store isn't used. The store has no base at first. The statuses are:
 ///
-/// - 0: all was done, and the script was read to its end; plans, where they are listed, and the arrays printed were written, and the store
-///   has no base.
+/// - 0: all was done, and the script was read to its end; plans and certificates, where they are listed, and the arrays printed were written,
+///   and the store has no base.
 /// - 1: the script is refused; the line of the refusal was written, and the store is as it was.
 /// - 2: the words name no command; the usage line was written, and the store is as it was.
 /// - 3: a read of the script or of the proof failed; nothing was written, or with `check` the lines of some first flushes; the store is as it
 ///   was.
 /// - 4: a write failed; a front of the text was written. With an accepted script the store is what its parts leave up to the list in whose
-///   arrays the first missing byte stands, or up to the one before the list in whose plan lines it stands; else it is as it was.
+///   arrays the first missing byte stands, or up to the one before the list in whose plan or certificate it stands; else it is as it was.
 /// - 5: no memory is left; a front of the text was written. With words that name no command it never comes.
 /// - 6: the proof is rejected; the lines of the flushes before and the line of the rejection were written, and the store is as it was.
 pub fn serve<S: Source, C: Source, K: Sink>(
@@ -143,13 +143,15 @@ fn run_all<K: Sink>(
     requires fitting { each_fits (memory_of store.old) parts.now ≡ true }
     requires few { length parts.now ≤ 4_194_304 }
     requires counts { CountsBelow (2 ^ 59) store.old }
-    ensures ended { Ended 0 result (K.written sink.old) (K.written sink.new) (parts_text choice 1 (memory_of store.old) parts.now) }
+    ensures known { (result ≡ 0) ⊎ (result ≡ 4) ⊎ (result ≡ 5) }
+    ensures wrote { result ≡ 0 → PartsWrote choice (memory_of store.old) parts.now (K.written sink.old) (K.written sink.new) }
     ensures later { K.faults sink.old ≤ K.faults sink.new }
     ensures cause { result ≡ 4 → Rose (K.faults sink.old) (K.faults sink.new) }
     ensures memory { result ≡ 0 → memory_of store.new ≡ after_parts (memory_of store.old) parts.now }
     ensures counts { result ≡ 0 → RisesBy (length parts.now * 2 ^ 32) store.old store.new }
     ensures stopped { result ≡ 4
-        → StoppedIn choice 1 (memory_of store.old) parts.now (K.written sink.old) (K.written sink.new) store.old store.new }
+        → StoppedIn choice (memory_of store.old) parts.now (K.written sink.old) (K.written sink.new) store.old store.new }
+    ensures broke { result ≡ 5 → BrokeIn choice (memory_of store.old) parts.now (K.written sink.old) (K.written sink.new) }
 {
     match run_parts(alloc, choice, parts, store, sink) {
         Ok(()) => DONE,

@@ -1,6 +1,6 @@
-use Rattle.std.proofs.Common.{◌≡◌, ◌+◌, [], Err, rules, subst, sym, drop, refl, arith}
+use Rattle.std.proofs.Common.{◌≡◌, ◌+◌, [], Err, rules, subst, sym, drop, arith}
 use Rattle.arr_cert.specs.Proofs.{unread}
-use Rattle.arr_run.specs.Checking.{Checking, Checks}
+use Rattle.arr_run.specs.Checking.{Checks}
 use Rattle.arr_run.proofs.Judging.{beginning, here}
 use Rattle.arr_run.proofs.checking.check_flushes.Goals as goal
 

@@ -1,4 +1,4 @@
-use Rattle.std.proofs.Common.{◌≤◌, length, ap, arith, rules}
+use Rattle.std.proofs.Common.{◌≤◌, length, ap, arith}
 use Rattle.arr_run.proofs.Rewritten.{normal_few}
 use Rattle.arr_run.proofs.checking.check_list.Goals as goal
 

@@ -1,5 +1,4 @@
 use Rattle.std.proofs.Common.{◌≡◌, ◌∷◌, arith, Err, rules, subst, sym}
-use Rattle.std.specs.Prelude.{List}
 use Rattle.arr_record.specs.declared.part.Part.{Part}
 use Rattle.arr_record.specs.declared.part.Part.TheVariants.{Flush}
 use Rattle.arr_cert.specs.Proofs.{unread}

@@ -1,4 +1,3 @@
-use Rattle.std.proofs.Common.{rules, ◌≡◌}
 use Rattle.arr_cert.specs.Proofs.{unread}
 use Rattle.arr_run.proofs.Judging.{failing_first, failing_memory, failing_read, fresh}
 use Rattle.arr_run.proofs.checking.check_parts.Goals as goal

@@ -1,22 +1,13 @@
-use Rattle.std.proofs.Common.{◌≡◌, ◌∙◌, ap, sym, subst, rules, Err}
-use Rattle.arr_store.specs.Stored.{memory_of}
-use Rattle.arr_record.specs.declared.part.Part.TheVariants.{Flush}
-use Rattle.arr_run.specs.declared.flush.RunFault.TheVariants.{WriteFault}
-use Rattle.arr_run.specs.Parts.{Wrote, segment_at}
-use Rattle.arr_run.specs.Pieces.{segment_text}
+use Rattle.std.proofs.Common.{◌≡◌, ◌∙◌, ap, sym, rules, Err}
+use Rattle.arr_run.specs.declared.flush.RunFault.TheVariants.{WriteFault, NoMemory}
+use Rattle.arr_run.specs.Flushes.{planned_in}
 use Rattle.arr_run.proofs.Flushing.{same_err}
-use Rattle.arr_run.proofs.Writes.{wrote_fault}
 use Rattle.arr_run.proofs.parts.run_flush.Goals as goal
 
-pub returns-in_err-flush_once-clause-wrote : goal.returns-in_err-flush_once-clause-wrote
-returns-in_err-flush_once-clause-wrote g c =
-    let e = c.in_err-flush_once.field-0.0 in
-    let old = g.K.Sink.written c.args.sink.now in
-    let new = g.K.Sink.written c.flush_once.new.sink in
-    let text = segment_text (segment_at c.args.choice c.args.number (memory_of c.args.store.now) (Flush c.args.ops.now)) in
-    let returned : c.from_residual.result ≡ Err e = search rules in
-    subst (λ r. Wrote r old new text) (sym returned)
-    (wrote_fault e old new text (λ is. let cut = c.in_err-flush_once.ensures.stopped (ap Err is) in (cut.count, cut.short, cut.wrote)) (λ is. c.in_err-flush_once.ensures.front (ap Err is)))
+pub returns-clause-wrote : goal.returns-clause-wrote
+returns-clause-wrote g c =
+    let report = c.in_ok-flush_once.field-0 in
+    record { planned = (planned_in report, c.in_ok-flush_once.ensures.report.planned); wrote = c.in_ok-flush_once.ensures.wrote }
 
 pub returns-in_err-flush_once-clause-cause : goal.returns-in_err-flush_once-clause-cause
 returns-in_err-flush_once-clause-cause g c =
@@ -29,3 +20,9 @@ returns-in_err-flush_once-clause-stopped g c = λ is.
     let e = c.in_err-flush_once.field-0.0 in
     let returned : c.from_residual.result ≡ Err e = search rules in
     c.in_err-flush_once.ensures.stopped (ap Err (same_err e WriteFault (sym returned ∙ is)))
+
+pub returns-in_err-flush_once-clause-broke : goal.returns-in_err-flush_once-clause-broke
+returns-in_err-flush_once-clause-broke g c = λ is.
+    let e = c.in_err-flush_once.field-0.0 in
+    let returned : c.from_residual.result ≡ Err e = search rules in
+    c.in_err-flush_once.ensures.broke (ap Err (same_err e NoMemory (sym returned ∙ is)))

@@ -1,13 +1,8 @@
-use Rattle.std.proofs.Common.{◌≡◌, ◌∙◌, ◌+◌, ◌≤◌, Err, sym, subst, rules, arith, drop, refl, true}
-use Rattle.std.specs.List.{flat_map}
-use Rattle.std.specs.Io.KnownBytes.{Appends}
-use Rattle.std.proofs.KnownBytes.{Appends-trans}
+use Rattle.std.proofs.Common.{◌≡◌, ◌∙◌, ◌+◌, ◌≤◌, sym, refl, subst, arith, rules, drop, true, Err}
 use Rattle.arr_record.specs.Runs.{after_part, each_fits}
 use Rattle.arr_store.specs.Stored.{memory_of}
-use Rattle.arr_run.specs.Parts.{Wrote, parts_text, segment_at}
-use Rattle.arr_run.specs.Pieces.{number_behind, segment_text}
-use Rattle.arr_run.proofs.Turns.{Turn, behind_most, is_one, risen, stopped, turn}
-use Rattle.arr_run.proofs.Writes.{wrote_part}
+use Rattle.arr_run.specs.Pieces.{number_behind}
+use Rattle.arr_run.proofs.Turns.{Turn, behind_most, broke, is_one, risen, stopped, turn, wrote_more}
 use Rattle.arr_run.proofs.parts.run_parts.Goals as goal
 
 pub run_part-requires-clause-part : goal.run_part-requires-clause-part
@@ -20,23 +15,8 @@ run_part-requires-clause-fitting g c =
     let parts = c.args.parts.now in
     let i = c.loop-part.part-index in
     let x = c.part-item.result in
-    let t : Turn c.args.choice parts i m now c.loop-part.number x = turn c.args.choice parts i m now c.loop-part.number x c.loop-part-test.true c.part-item.is c.loop-part.invariant.memory c.loop-part.invariant.number c.loop-part.invariant.fitting in
+    let t : Turn parts i m now c.loop-part.number x = turn parts i m now c.loop-part.number x c.loop-part-test.true c.part-item.is c.loop-part.invariant.memory c.loop-part.invariant.number c.loop-part.invariant.fitting in
     t.fits
-
-pub returns-in_err-run_part-clause-wrote : goal.returns-in_err-run_part-clause-wrote
-returns-in_err-run_part-clause-wrote g c =
-    let m = memory_of c.args.store.now in
-    let now = memory_of c.loop-part.store in
-    let parts = c.args.parts.now in
-    let i = c.loop-part.part-index in
-    let x = c.part-item.result in
-    let t : Turn c.args.choice parts i m now c.loop-part.number x = turn c.args.choice parts i m now c.loop-part.number x c.loop-part-test.true c.part-item.is c.loop-part.invariant.memory c.loop-part.invariant.number c.loop-part.invariant.fitting in
-    let old = g.K.Sink.written c.args.sink.now in
-    let new = g.K.Sink.written c.run_part.new.sink in
-    let all = parts_text c.args.choice 1 m parts in
-    let returned : c.from_residual.result ≡ Err c.in_err-run_part.field-0.0 = search rules in
-    subst (λ r. Wrote r old new all) (sym returned)
-    (wrote_part c.in_err-run_part.field-0.0 old _ new _ (segment_text (segment_at c.args.choice c.loop-part.number now x)) (flat_map segment_text t.rest) all c.loop-part.invariant.wrote c.in_err-run_part.ensures.wrote t.whole)
 
 pub returns-in_err-run_part-clause-stopped : goal.returns-in_err-run_part-clause-stopped
 returns-in_err-run_part-clause-stopped g c = λ is.
@@ -45,9 +25,20 @@ returns-in_err-run_part-clause-stopped g c = λ is.
     let parts = c.args.parts.now in
     let i = c.loop-part.part-index in
     let x = c.part-item.result in
-    let t : Turn c.args.choice parts i m now c.loop-part.number x = turn c.args.choice parts i m now c.loop-part.number x c.loop-part-test.true c.part-item.is c.loop-part.invariant.memory c.loop-part.invariant.number c.loop-part.invariant.fitting in
+    let t : Turn parts i m now c.loop-part.number x = turn parts i m now c.loop-part.number x c.loop-part-test.true c.part-item.is c.loop-part.invariant.memory c.loop-part.invariant.number c.loop-part.invariant.fitting in
     let returned : c.from_residual.result ≡ Err c.in_err-run_part.field-0.0 = search rules in
-    stopped c.args.choice parts i c.loop-part.number x m now _ _ _ c.args.store.now c.loop-part.store c.run_part.new.store t refl c.loop-part.invariant.wrote (c.in_err-run_part.ensures.stopped (sym returned ∙ is)) c.loop-part.invariant.counts
+    stopped c.args.choice parts i m now c.loop-part.number x _ _ _ c.args.store.now c.loop-part.store c.run_part.new.store t refl c.loop-part.invariant.wrote (c.in_err-run_part.ensures.stopped (sym returned ∙ is)) c.loop-part.invariant.counts
+
+pub returns-in_err-run_part-clause-broke : goal.returns-in_err-run_part-clause-broke
+returns-in_err-run_part-clause-broke g c = λ is.
+    let m = memory_of c.args.store.now in
+    let now = memory_of c.loop-part.store in
+    let parts = c.args.parts.now in
+    let i = c.loop-part.part-index in
+    let x = c.part-item.result in
+    let t : Turn parts i m now c.loop-part.number x = turn parts i m now c.loop-part.number x c.loop-part-test.true c.part-item.is c.loop-part.invariant.memory c.loop-part.invariant.number c.loop-part.invariant.fitting in
+    let returned : c.from_residual.result ≡ Err c.in_err-run_part.field-0.0 = search rules in
+    broke c.args.choice parts i m now c.loop-part.number x _ _ _ t c.loop-part.invariant.wrote (c.in_err-run_part.ensures.broke (sym returned ∙ is))
 
 pub loop-part-preserved : goal.loop-part-preserved
 loop-part-preserved g c =
@@ -56,13 +47,13 @@ loop-part-preserved g c =
     let parts = c.args.parts.now in
     let i = c.loop-part.part-index in
     let x = c.part-item.result in
-    let t : Turn c.args.choice parts i m now c.loop-part.number x = turn c.args.choice parts i m now c.loop-part.number x c.loop-part-test.true c.part-item.is c.loop-part.invariant.memory c.loop-part.invariant.number c.loop-part.invariant.fitting in
+    let t : Turn parts i m now c.loop-part.number x = turn parts i m now c.loop-part.number x c.loop-part-test.true c.part-item.is c.loop-part.invariant.memory c.loop-part.invariant.number c.loop-part.invariant.fitting in
     let next = memory_of c.run_part.new.store in
     let after : next ≡ after_part now x = c.in_ok-run_part.ensures.memory in
     let number : c.number_behind-number.result ≡ number_behind x c.loop-part.number = c.number_behind-number.ensures in
     record {
       fitting = subst (λ n. each_fits n (drop (i + 1) parts) ≡ true) (sym after) t.fitting;
-      wrote = subst (Appends (g.K.Sink.written c.args.sink.now) (g.K.Sink.written c.run_part.new.sink)) (sym t.text) (Appends-trans _ _ _ _ _ c.loop-part.invariant.wrote c.in_ok-run_part.ensures.wrote);
+      wrote = wrote_more c.args.choice parts i m now c.loop-part.number x _ _ _ t c.loop-part.invariant.wrote c.in_ok-run_part.ensures.wrote;
       memory = after ∙ t.memory;
       number = number ∙ t.number_is;
       few = let step : number_behind x c.loop-part.number ≤ c.loop-part.number + 1 = behind_most x c.loop-part.number in omega (arith, number, step, c.loop-part.invariant.few);

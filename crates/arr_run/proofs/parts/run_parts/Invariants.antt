@@ -1,8 +1,7 @@
 use Rattle.std.proofs.Common.{◌≡◌, ◌*◌, ◌^◌, ◌+◌, ◌≤◌, drop, take, true}
-use Rattle.std.specs.Io.KnownBytes.{Appends}
 use Rattle.arr_record.specs.Runs.{after_parts, each_fits}
 use Rattle.arr_store.specs.Stored.{memory_of}
-use Rattle.arr_run.specs.Parts.{RisesBy, parts_text}
+use Rattle.arr_run.specs.Parts.{PartsWrote, RisesBy}
 use Rattle.arr_run.proofs.Turns.{number_after}
 use Rattle.arr_run.proofs.parts.run_parts.Given as goal
 
@@ -12,7 +11,7 @@ invariant-loop-part g l =
     let now = memory_of l.store in
     record {
       fitting : each_fits now (drop l.part-index l.parts) ≡ true;
-      wrote : Appends (g.K.Sink.written l.initial.sink) (g.K.Sink.written l.sink) (parts_text l.choice 1 before (take l.part-index l.parts));
+      wrote : PartsWrote l.choice before (take l.part-index l.parts) (g.K.Sink.written l.initial.sink) (g.K.Sink.written l.sink);
       memory : now ≡ after_parts before (take l.part-index l.parts);
       number : l.number ≡ number_after 1 (take l.part-index l.parts);
       few : l.number ≤ l.part-index + 1;

@@ -1,7 +1,6 @@
-use Rattle.std.proofs.Common.{◌≡◌, inl, inr, ⊎_elim, refl, subst, arith}
+use Rattle.std.proofs.Common.{inl, inr, ⊎_elim, refl, subst, arith}
 use Rattle.arr_run.specs.Checked.{accepted_line, rejected_line}
 use Rattle.arr_run.specs.Checking.{Failing}
-use Rattle.arr_run.specs.Parts.{Ended}
 use Rattle.arr_run.proofs.Judging.{blamed, judged_accepted, judged_memory, judged_rejected}
 use Rattle.arr_run.proofs.program.judge.Goals as goal
 

@@ -1,6 +1,6 @@
 use Rattle.std.proofs.Common.{◌≡◌, ◌∙◌, ◌∷◌, [], ℕ, List, Vec, Global, ap, map, refl, take_all}
 use Rattle.arr_ops.specs.Costs.{block_cost}
-use Rattle.arr_run.proofs.flush.costs_of.Goals as goal
+use Rattle.arr_run.proofs.planning.costs_of.Goals as goal
 
 abbrev numbers_in : Vec ℕ Global → List ℕ
 numbers_in b = b.items

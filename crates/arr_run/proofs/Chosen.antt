@@ -1,5 +1,6 @@
--- The planners' plans are legal, and what they cost is small.
-use Rattle.std.proofs.Common.{◌≡◌, ℕ, ◌+◌, ◌*◌, ◌^◌, ◌<◌, ◌≤◌, List, [], ◌∷◌, ◌++◌, length, map, sum, Bool, true, false, cond, not, refl, arith, Option, Some, None}
+-- The plans that are chosen are legal, and what they cost is small.
+use Rattle.std.proofs.Common.{◌≡◌, ◌⊎◌, inl, inr, ⊎_elim, ℕ, ◌+◌, ◌*◌, ◌^◌, ◌<◌, ◌≤◌, List, [], ◌∷◌, ◌++◌, length, map, sum, Bool, true, false, cond, not, refl, ap, ◌∙◌, subst, arith, Option, Some, None}
+use Rattle.std.proofs.lemmas.Bool.{cases_lt}
 use Rattle.std.proofs.lemmas.List.Sums.{sum-map, sum_by-cons}
 use Rattle.std.specs.List.{AllByRecursion, filter, flat_map, sum_by}
 use Rattle.std.specs.Option.{option_to_list}
@@ -16,29 +17,47 @@ use Rattle.arr_heur.proofs.LinearPlan.{linear_legal}
 use Rattle.arr_heur.proofs.Merged.{greedy_legal}
 use Rattle.arr_perform.proofs.Blocks.{all_ops, ops_in}
 use Rattle.arr_perform.proofs.Picked.{all_block}
-use Rattle.arr_record.specs.declared.part.Part.{Part}
-use Rattle.arr_record.specs.declared.part.Part.TheVariants.{Flush, Gather, Scatter}
-use Rattle.arr_rewrite.specs.NormalForm.{normal_form}
-use Rattle.arr_run.specs.declared.choice.Choice.{Choice}
+use Rattle.arr_cert.specs.Texts.{is_spellable}
+use Rattle.arr_law.specs.declared.certificate.Certificate.{Certificate}
+use Rattle.arr_search.specs.declared.found.Found.{Found}
+use Rattle.arr_search.specs.Best.{IsBest}
 use Rattle.arr_run.specs.declared.choice.Fuse.{Fuse}
-use Rattle.arr_run.specs.declared.choice.Fuse.TheVariants.{Linear, Greedy}
-use Rattle.arr_run.specs.Parts.{part_head}
-use Rattle.arr_run.specs.Pieces.{PlannedPart, head_of, plan_by}
+use Rattle.arr_run.specs.declared.choice.Fuse.TheVariants.{Linear, Greedy, Best}
+use Rattle.arr_run.specs.declared.planning.Planned.{Planned}
+use Rattle.arr_run.specs.Chosen.{IsChosen, Searched}
 use Rattle.arr_run.proofs.Stepped.{small_weight}
 
-pub plan_legal : (fuse : Fuse) (list : List Op) → is_legal list (plan_by fuse list) ≡ true
-plan_legal Linear list = linear_legal list
-plan_legal Greedy list = (greedy_legal list).2
+-- ---- what is chosen
 
-abbrev pub planned_part : (choice : Choice) (part : Part) → PlannedPart choice part
-planned_part choice (Flush list) = record { plan = plan_by choice.fuse (normal_form list); legal = plan_legal choice.fuse (normal_form list); chosen = refl }
-planned_part choice (Gather g) = tt
-planned_part choice (Scatter g) = tt
+pub chosen_legal : (fuse : Fuse) (list : List Op) (number budget : ℕ) (p : Planned) → IsChosen fuse list number budget p → is_legal list p.plan ≡ true
+chosen_legal Linear list number budget p e = ap (λ (q : Planned). is_legal list q.plan) e ∙ linear_legal list
+chosen_legal Greedy list number budget p e = ap (λ (q : Planned). is_legal list q.plan) e ∙ (greedy_legal list).2
+chosen_legal Best list number budget p s = s.best.legal
 
-pub head_is : (choice : Choice) (number : ℕ) (part : Part) → head_of choice number part (planned_part choice part) ≡ part_head choice number part
-head_is choice number (Flush list) = refl
-head_is choice number (Gather g) = refl
-head_is choice number (Scatter g) = refl
+pub certificate_spellable : (fuse : Fuse) (list : List Op) (number budget : ℕ) (p : Planned) → IsChosen fuse list number budget p → (c : Certificate) → p.certificate ≡ Some c → is_spellable c ≡ true
+certificate_spellable Linear list number budget p e c is = absurd (let none : p.certificate ≡ None = ap (λ (q : Planned). q.certificate) e in cc)
+certificate_spellable Greedy list number budget p e c is = absurd (let none : p.certificate ≡ None = ap (λ (q : Planned). q.certificate) e in cc)
+certificate_spellable Best list number budget p s c is =
+    let same : s.certificate ≡ c = let e = s.certificate_is in cc in
+    subst (λ d. is_spellable d ≡ true) same s.best.certificate.spellable
+
+-- a bound that is not the cost was found by spending the budget
+optimal_or_spent : (bound cost units budget : ℕ) → bound ≤ cost → (bound < cost → units ≡ budget) → (bound ≡ cost) ⊎ (units ≡ budget)
+optimal_or_spent bound cost units budget below spent = ⊎_elim (λ l. inr (spent l)) (λ l. inl (omega arith)) (cases_lt bound cost)
+
+-- what a search finds
+pub searched : (list : List Op) (number budget : ℕ) (found : Found) → IsBest list number budget found
+    → Searched list number budget (record { plan = found.plan; bound = Some found.bound; units = found.units; certificate = Some found.certificate })
+searched list number budget found b = record {
+  bound = found.bound;
+  certificate = found.certificate;
+  bound_is = refl;
+  certificate_is = refl;
+  least = b.least;
+  accepted = b.certificate.accepted;
+  optimal_or_spent = subst (λ c. (found.bound ≡ c) ⊎ (found.units ≡ budget)) b.cost_is (optimal_or_spent found.bound found.cost found.units budget b.below b.shows.spent);
+  best = subst (λ c. IsBest list number budget (record { plan = found.plan; cost = c; bound = found.bound; units = found.units; certificate = found.certificate })) b.cost_is b;
+}
 
 -- ---- sums of weights
 
