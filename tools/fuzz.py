@@ -10,6 +10,7 @@ seed and `--count=1`. A difference is shown with a script made shorter line by l
 """
 import argparse
 import functools
+import itertools
 import multiprocessing
 import os
 import random
@@ -231,15 +232,15 @@ def main():
     words = parser.parse_args()
     end, passed, failed, done = time.time() + words.seconds, 0, 0, 0
     print(f"seeds from {words.seed} on", flush=True)
-    with multiprocessing.Pool(words.jobs) as pool:
-        while done < words.count and time.time() < end:
-            some = min(words.count - done, 4 * words.jobs)
-            seeds = range(words.seed + done, words.seed + done + some)
-            for good, failures in pool.starmap(judge_seed, [(words.program, seed) for seed in seeds], chunksize=1):
-                passed, failed = passed + good, failed + len(failures)
-                for failure in failures:
-                    print(failure, flush=True)
-            done += some
+    each = multiprocessing.Pool(words.jobs).starmap if words.jobs > 1 else itertools.starmap
+    while done < words.count and time.time() < end:
+        some = min(words.count - done, 4 * words.jobs if words.jobs > 1 else 1)
+        seeds = range(words.seed + done, words.seed + done + some)
+        for good, failures in each(judge_seed, [(words.program, seed) for seed in seeds]):
+            passed, failed = passed + good, failed + len(failures)
+            for failure in failures:
+                print(failure, flush=True)
+        done += some
     print(f"{done} seeds\n{passed} passed, {failed} failed")
     return 1 if failed or not passed else 0
 
