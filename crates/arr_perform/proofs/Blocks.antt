@@ -120,7 +120,7 @@ alike_itself None = tt
 alike_itself (Some a) = (refl, refl, refl)
 
 -- the blank slot of the list at its number is its own
-abbrev Own : List Op → Op → Type 0
+abbrev pub Own : List Op → Op → Type 0
 Own list op = (s : ℕ) → op.slot ≡ Some s → blank_slots list s ≡ Some (blank_slot op)
 
 own_from : (ops : List Op) (j n : ℕ) → slot_numbers ops ≡ range_with_len j n → AllByRecursion (λ (op : Op). (s : ℕ) → op.slot ≡ Some s → (j ≤ s) × (blank_slots ops s ≡ Some (blank_slot op))) ops
@@ -136,7 +136,7 @@ own_from (op ∷ ops) j n e =
           (omega arith, kept_slot op.slot (blank_slot op) s (blank_slots ops s) (λ a here same. let k : a < b.from = (b.own a here).0 in absurd (omega arith)) ∙ p.1)) ops (own_from ops b.from b.count b.is),
     )
 
-own_all : (list : List Op) → is_formed list ≡ true → AllByRecursion (Own list) list
+pub own_all : (list : List Op) → is_formed list ≡ true → AllByRecursion (Own list) list
 own_all list h =
     All_weaker (λ (op : Op). (s : ℕ) → op.slot ≡ Some s → (1 ≤ s) × (blank_slots list s ≡ Some (blank_slot op))) (Own list) (λ op p s is. (p s is).1) list
     (own_from list 1 (length (slot_numbers list)) (ascend list h))
@@ -148,7 +148,7 @@ shows_alike op (Some a) h =
     (ap₂ (λ x y. x && y) (ap (λ ls. same_lists ls (lengths_of op.first)) h.1 ∙ same_list (lengths_of op.first))
     (eq-eqb (length a.numbers) (positions (lengths_of op.first)) (h.2 ∙ length-replicate (positions (lengths_of op.first)) (pos 0))))
 
-slot_there : (list : List Op) (op : Op) (slots : ℕ → Option Slot) → Own list op → ((s : ℕ) → Alike (slots s) (blank_slots list s)) → (slot : Option ℕ) → op.slot ≡ slot → list_all (λ s. shows op (slots s)) (option_to_list slot) ≡ true
+pub slot_there : (list : List Op) (op : Op) (slots : ℕ → Option Slot) → Own list op → ((s : ℕ) → Alike (slots s) (blank_slots list s)) → (slot : Option ℕ) → op.slot ≡ slot → list_all (λ s. shows op (slots s)) (option_to_list slot) ≡ true
 slot_there list op slots own alike None e = refl
 slot_there list op slots own alike (Some s) e = ap (λ b. b && true) (shows_alike op (slots s) (subst (Alike (slots s)) (own s e) (alike s)))
 
@@ -164,7 +164,7 @@ alike_slot list op m own well (Some k) e s alike =
       | false ↦ λ other. alike
     ] refl
 
-alike_after : (list ops : List Op) (m : Memory) → AllByRecursion (Own list) ops → AllByRecursion (λ f. well_formed f ≡ true) ops → ((s : ℕ) → Alike (m.slots s) (blank_slots list s))
+pub alike_after : (list ops : List Op) (m : Memory) → AllByRecursion (Own list) ops → AllByRecursion (λ f. well_formed f ≡ true) ops → ((s : ℕ) → Alike (m.slots s) (blank_slots list s))
     → (s : ℕ) → Alike ((eager m ops).slots s) (blank_slots list s)
 alike_after list [] m own well alike s = alike s
 alike_after list (op ∷ ops) m own well alike s = alike_after list ops (step m op) own.1 well.1 (λ k. alike_slot list op m own.0 well.0 op.slot refl k (alike k)) s
