@@ -35,7 +35,7 @@ use Rattle.arr_search.specs.Nodes.{IsDecided, IsNode, IsPlanned, IsSearch, is_wr
 use Rattle.arr_search.specs.Turns.{Advanced, Stands, Settled, Worked}
 use Rattle.arr_search.proofs.Counts.{open-le, with_within}
 use Rattle.arr_search.proofs.Stepped.{Stepped, stepped, none, symmetric-with, plain-with}
-use Rattle.arr_search.proofs.Running.{size-le, branched, ended, leafed, at_ready, fewer_same, fewer_apart}
+use Rattle.arr_search.proofs.Running.{size-le, branched, ended, leafed, at_ready, fewer_same, fewer_apart, cheapened}
 use Rattle.arr_search.proofs.Lists.{plans_pay}
 use Rattle.arr_search.proofs.Written.{steps_written, leaf_written, dead_written, branch_written}
 
@@ -288,6 +288,19 @@ module _ (list : List Op) (budget : ℕ) where
   -- all units are spent where so many steps were taken as were left
   pub advanced_all : (trail trail' : List Fact) (p q : Progress) (outcome : Outcome) (a : Advanced P budget trail trail' p q outcome) → p.units ≤ budget → length a.saturated.steps ≡ budget - p.units → q.units ≡ budget
   advanced_all trail trail' p q outcome a within all = omega (arith, ap (λ (r : Progress). r.units) a.rest, all, within)
+
+-- ---- a plan that costs less
+
+pub cheaper_plan : (list : List Op) (budget : ℕ) (pending : List Facts) (p : Progress) (plan : List (List ℕ)) (price : ℕ) → IsTrue (is_legal list plan) → price ≡ cost list plan → price < p.cost → IsSearch list budget pending p
+    → IsSearch list budget pending (record p { cost = price; plan = plan })
+cheaper_plan list budget pending p plan price legal costs low s =
+    record {
+      formed = s.formed;
+      few = s.few;
+      running = cheapened (problem_of list) (cost list (greedy_plan list)) budget pending p.tree p.units p.least p.cost price s.running (omega arith) (subst (Pays (problem_of list)) (sym costs) (plans_pay list plan s.formed legal));
+      planned = record { legal = legal; cost_is = costs; improves = inr (omega (arith, low, s.running.cheaper)) };
+      written = s.written;
+    }
 
 -- ---- a state of the list
 

@@ -1,7 +1,8 @@
 //! The search for a best plan.
-ghost use Rattle.std.specs.Prelude.{◌≡◌, ◌≤◌, ◌∷◌, [], ℕ, IfOk, IsTrue, length};
+ghost use Rattle.std.specs.Prelude.{◌≡◌, ◌≤◌, ◌∷◌, [], ℕ, IfOk, IsTrue, List, length};
 ghost use Rattle.arr_ops.specs.Formed.{is_formed};
-ghost use Rattle.arr_law.specs.Facts.{root_facts};
+ghost use Rattle.arr_ops.specs.Plans.{is_legal};
+ghost use Rattle.arr_law.specs.Facts.{Facts, root_facts};
 ghost use Rattle.arr_law.specs.ProblemOf.{problem_of};
 ghost use Rattle.arr_search.specs.Best.{IsBest};
 ghost use Rattle.arr_search.specs.Nodes.{IsSearch};
@@ -16,7 +17,9 @@ use arr_bound::Views;
 use arr_cost::Costs;
 use arr_deps::Graph;
 use arr_greedy::greedy;
+use arr_heur::linear;
 use arr_law::{Certificate, Records};
+use arr_ops::Plan;
 use arr_state::State;
 use std::alloc::Global;
 
@@ -36,6 +39,27 @@ fn begin(alloc: Global, graph: &Graph, costs: &Costs) -> Result<Progress, NoMemo
         cost,
         plan,
     })
+}
+
+/// Takes a legal plan in place of the best so far, where it costs less.
+fn improve(
+    alloc: Global,
+    graph: &Graph,
+    costs: &Costs,
+    progress: &mut Progress,
+    plan: Plan,
+) -> Result<(), NoMemory>
+    requires costs { costs.now ≡ graph.now }
+    requires legal { IsTrue (is_legal graph.now plan) }
+    ensures { IfOk result (λ done. (budget : ℕ) (pending : List Facts) → IsSearch graph.now budget pending progress.old → IsSearch graph.now budget pending progress.new) }
+{
+    let cost = costs.cost(alloc, &plan)?;
+    if cost >= progress.cost {
+        return Ok(());
+    }
+    progress.plan = plan;
+    progress.cost = cost;
+    Ok(())
 }
 
 /// What a search answers once no node is left.
@@ -92,6 +116,8 @@ pub fn search(
     let views = Views::of(alloc, ops.as_slice())?;
     let mut state = State::new(alloc, graph)?;
     let mut progress = begin(alloc, graph, costs)?;
+    let other = linear(alloc, graph)?;
+    improve(alloc, graph, costs, &mut progress, other)?;
     explore(alloc, graph, &views, &mut state, &mut progress, budget)?;
     finish(alloc, graph, number, budget, progress)
 }
