@@ -1,12 +1,16 @@
-//! What a search for a best plan keeps true, and what it has at its end.
+//! The search for a best plan.
 //!
-//! A search holds a list of nodes that are still to come, each a set of facts, the records of its tree so far, and the cost of the best plan so
-//! far. At a node it appends steps, and then a branch or a leaf. The promise (`laws.rt`): where each of these is lawful, the search at its end
-//! has an accepted tree, whose bound is the least of the cost and of its leaves' worths; the bound is no less than the floors; units are counted
-//! and within the budget, all are spent where the bound stays below the cost, and with enough of them bound and cost are equal.
+//! The promise: `search` gives a legal plan, greedy's or a cheaper one, a bound that no legal plan costs less than, and the certificate of both,
+//! with at most so many steps and branches (`IsBest` in specs/Best.antt). The certificate is accepted, and its text can be written. The bound is the least of the
+//! cost and of the worths of the leaves; it is no less than the floors; all units are spent where it stays below the cost, and with enough of them bound and
+//! cost are equal.
 //!
-//! The definitions, in `specs/`: `Found` (what a search answers), `Steps`, `Counts` (open pairs, missing facts), `Running` (what is kept), and
-//! `Laws`. docs/CERTIFICATES.md, "Searching", states the same in words.
+//! The search goes depth first. It holds what is known at the node where it stands, the nodes that wait, the records so far, and the best plan (`explore`). At a node
+//! (`work`) it makes a leaf, takes steps, and ends the node by a leaf, or by a branch on the pair of which both sides gain most (`Candidates`), or, where all is
+//! decided, by a better plan (`plan_of`). Which pair and which further plans are tried, nothing depends on: they are policies.
+//!
+//! The definitions, in `specs/`: `Best` (what `search` promises), `Found` (what its tree shows), `Steps`, `Counts` (open pairs, missing facts), `Running` (what is kept), `Laws`; `Nodes`,
+//! `Turns` and `Parts`, which private calls speak of. What a search may do at a node stands as laws (`laws.rt`). docs/CERTIFICATES.md, "Searching", states the same in words.
 #![tactic(auto)]
 
 mod best;
