@@ -4,7 +4,9 @@
 //! bytes a command may answer to a script, and what the store is then, wherever the writing ended. The arrays in it are the eager
 //! arrays of arr_elab, where each operation runs when its statement is reached and nothing is freed or put off; their lines are those of
 //! arr_listing. That the program records lists, with gathers and scatters between them, frees bases, rewrites and plans
-//! shows in the store, where a write failed, and in the plan lines, where they are asked for (specs/Pieces.antt).
+//! shows in the store, where a write failed, and in the plan lines and certificates, where they are asked for (specs/Pieces.antt). What is
+//! chosen for a list is a legal plan; that of the planner best comes with a bound that no legal plan costs less than and a certificate
+//! that the checker accepts, and it costs the bound or the budget was spent (specs/Chosen.antt).
 //!
 //! [`flush_once`] runs one list: it is rewritten, planned, listed, run block by block, and printed (`Reports` in specs/Flushes.antt).
 //!
