@@ -15,7 +15,10 @@ mod fill;
 mod lane;
 mod line;
 mod spares;
+mod strip;
 
+pub use fill::numbers_of;
 pub use lane::Lane;
-pub use line::{Line, Work, run_lines};
+pub use line::{Line, Work, put, run_line};
 pub use spares::Spares;
+pub use strip::Strip;

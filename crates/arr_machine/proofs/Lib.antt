@@ -1,0 +1,13 @@
+pub mod Axes
+pub mod Blocks
+pub mod Steps
+pub mod Few
+pub mod Starts
+pub mod Types
+pub mod Operands
+pub mod Lines
+pub mod Reductions
+pub mod Scans
+pub mod Shows
+pub mod Rests
+pub mod Steadies

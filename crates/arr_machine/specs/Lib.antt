@@ -1,0 +1,4 @@
+pub mod Kept
+pub mod Shown
+pub mod Tasks
+pub mod Standing
