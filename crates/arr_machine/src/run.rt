@@ -61,7 +61,7 @@ fn show_lane(
         stride: 1,
         count: strip.count,
     };
-    slots.put_run(slot, run, &lanes[lane as usize]);
+    slots.put_run(slot, run, &lanes[lane as usize], 0);
 }
 
 /// The operation of a block with an index runs at a strip.

@@ -38,7 +38,7 @@ write_in t [] xs ns h all = all
 write_in t (e ∷ es) [] ns h all = all
 write_in t (e ∷ es) (x ∷ xs) ns h all = write_in t es xs (set ns e x) (both_right (in_type t x) _ h) (set_in t ns e x (both_left (in_type t x) (list_all (in_type t) xs) h) all)
 
-length-write : (es : List ℕ) (xs ns : List ℤ) → length (write es xs ns) ≡ length ns
+pub length-write : (es : List ℕ) (xs ns : List ℤ) → length (write es xs ns) ≡ length ns
 length-write [] xs ns = refl
 length-write (e ∷ es) [] ns = refl
 length-write (e ∷ es) (x ∷ xs) ns = length-write es xs (set ns e x) ∙ length-set ns e x

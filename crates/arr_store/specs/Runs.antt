@@ -25,7 +25,11 @@ abbrev pub IsOf : Elem → Option Cell → Type 0
 IsOf t None = ⊥
 IsOf t (Some c) = t ≡ c.elem
 
--- a cell with numbers written at the places of a run
+-- a cell with numbers written at places
+abbrev pub with_places : Cell → List ℕ → List ℤ → Cell
+with_places c es xs = record { elem = c.elem; numbers = write es xs c.numbers }
+
+-- the same, where there is a cell and the places are those of a run
 abbrev pub with_run : Option Cell → ℕ → ℤ → ℕ → List ℤ → Option Cell
 with_run c start stride count xs = changed (Writes (run_places start stride count) xs) c
 

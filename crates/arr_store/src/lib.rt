@@ -7,8 +7,8 @@
 //! changes that one number, `make` adds a base of zeros and `drop_base` takes one away; each raises its own counter and no other,
 //! and none falls. Every number is of its base's type. A refused `make` or `pick` changes nothing, and only what makes a store, a base or
 //! slots takes memory. `load` and `store` take constant time: an index leads from the base to its buffer. `load_run` and
-//! `store_run` move numbers that lie a stride apart ([`Run`]) between a base and a [`Buffer`] of its type, and count each of them;
-//! `put_run` puts such numbers into a slot. `pick` reads by an index: it makes a base of the numbers that the index names, and counts what
+//! `store_run` move numbers that lie a stride apart ([`Run`]) between a base and any place of a [`Buffer`] of its type, and count each
+//! of them; `store_numbers` does so from a list of numbers, and `put_run` puts such numbers into a slot. `pick` reads by an index: it makes a base of the numbers that the index names, and counts what
 //! it loaded and stored. Each public call that reaches numbers of a base counts them itself, and no other call changes a counter.
 //!
 //! The definitions: `specs/Stored.antt` has what a contract sees of a store, its bases as a function from numbers to cells (`cells`),

@@ -1,10 +1,10 @@
-//! Numbers that lie a stride apart, copied to the front of a lane and back.
-ghost use Rattle.std.specs.Prelude.{ℕ, ◌≡◌, ◌*◌, ◌<◌, ◌≤◌, get_or, length, map, pos, take, true};
+//! Numbers that lie a stride apart, copied to a place of a lane and back.
+ghost use Rattle.std.specs.Prelude.{ℕ, ◌≡◌, ◌+◌, ◌*◌, ◌<◌, ◌≤◌, drop, get_or, length, map, pos, take, true};
 ghost use Rattle.std.specs.List.{list_all};
 ghost use Rattle.arr_num.specs.Numbers.{in_type, width};
 ghost use Rattle.arr_ops.specs.Memory.{write};
 ghost use Rattle.arr_store.specs.Buffers.{cell_of};
-ghost use Rattle.arr_store.specs.Runs.{LiesIn, run_place, run_places};
+ghost use Rattle.arr_store.specs.Runs.{LiesIn, run_place, run_places, with_places};
 
 use crate::buffer::Buffer;
 use arr_native::Native;
@@ -20,62 +20,88 @@ pub struct Run {
 }
 
 impl Buffer {
-    /// Copies the numbers of a run to the front of a lane of its type.
+    /// Copies the numbers of a run to a lane of its type, from its number `at` on.
     #[inline]
-    pub(crate) fn load_run(&self, run: Run, lane: &mut Buffer)
+    pub(crate) fn load_run(&self, run: Run, lane: &mut Buffer, at: usize)
         requires elem { (cell_of lane.old).elem ≡ (cell_of self.now).elem }
-        requires lane { run.count ≤ length (cell_of lane.old).numbers }
+        requires lane { at + run.count ≤ length (cell_of lane.old).numbers }
         requires there { LiesIn (length (cell_of self.now).numbers) run.start run.stride run.count }
         ensures elem { (cell_of lane.new).elem ≡ (cell_of lane.old).elem }
         ensures length { length (cell_of lane.new).numbers ≡ length (cell_of lane.old).numbers }
-        ensures each { (i : ℕ) → i < run.count → get_or (cell_of lane.new).numbers i (pos 0) ≡ get_or (cell_of self.now).numbers (run_place run.start run.stride i) (pos 0) }
+        ensures each { (i : ℕ) → i < run.count → get_or (cell_of lane.new).numbers (at + i) (pos 0)
+            ≡ get_or (cell_of self.now).numbers (run_place run.start run.stride i) (pos 0) }
+        ensures before { (k : ℕ) → k < at
+            → get_or (cell_of lane.new).numbers k (pos 0) ≡ get_or (cell_of lane.old).numbers k (pos 0) }
+        ensures behind { (k : ℕ) → at + run.count ≤ k
+            → get_or (cell_of lane.new).numbers k (pos 0) ≡ get_or (cell_of lane.old).numbers k (pos 0) }
     {
         match self {
             Buffer::Bytes(numbers) => match lane {
-                Buffer::Bytes(out) => gather(out.as_mut_slice(), numbers.as_slice(), run),
+                Buffer::Bytes(out) => gather(out.as_mut_slice(), at, numbers.as_slice(), run),
                 _ => unreachable!(),
             },
             Buffer::Words(numbers) => match lane {
-                Buffer::Words(out) => gather(out.as_mut_slice(), numbers.as_slice(), run),
+                Buffer::Words(out) => gather(out.as_mut_slice(), at, numbers.as_slice(), run),
                 _ => unreachable!(),
             },
             Buffer::Longs(numbers) => match lane {
-                Buffer::Longs(out) => gather(out.as_mut_slice(), numbers.as_slice(), run),
+                Buffer::Longs(out) => gather(out.as_mut_slice(), at, numbers.as_slice(), run),
                 _ => unreachable!(),
             },
             Buffer::Naturals(numbers) => match lane {
-                Buffer::Naturals(out) => gather(out.as_mut_slice(), numbers.as_slice(), run),
+                Buffer::Naturals(out) => gather(out.as_mut_slice(), at, numbers.as_slice(), run),
                 _ => unreachable!(),
             },
         }
     }
 
-    /// Copies the front of a lane of its type to the places of a run.
+    /// Copies numbers of a lane of its type, from its number `at` on, to the places of a run.
     #[inline]
-    pub(crate) fn store_run(&mut self, run: Run, lane: &Buffer)
+    pub(crate) fn store_run(&mut self, run: Run, lane: &Buffer, at: usize)
         requires elem { (cell_of lane.now).elem ≡ (cell_of self.old).elem }
-        requires lane { run.count ≤ length (cell_of lane.now).numbers }
+        requires lane { at + run.count ≤ length (cell_of lane.now).numbers }
         requires there { LiesIn (length (cell_of self.old).numbers) run.start run.stride run.count }
-        ensures cell { cell_of self.new ≡ record { elem = (cell_of self.old).elem; numbers = write (run_places run.start run.stride run.count) (take run.count (cell_of lane.now).numbers) (cell_of self.old).numbers } }
-        ensures typed { list_all (in_type (cell_of self.old).elem) (take run.count (cell_of lane.now).numbers) ≡ true }
+        ensures cell { cell_of self.new ≡ with_places (cell_of self.old) (run_places run.start run.stride run.count)
+            (take run.count (drop at (cell_of lane.now).numbers)) }
+        ensures typed { list_all (in_type (cell_of self.old).elem) (take run.count (drop at (cell_of lane.now).numbers)) ≡ true }
     {
         match self {
             Buffer::Bytes(out) => match lane {
-                Buffer::Bytes(numbers) => scatter(out.as_mut_slice(), numbers.as_slice(), run),
+                Buffer::Bytes(numbers) => scatter(out.as_mut_slice(), numbers.as_slice(), at, run),
                 _ => unreachable!(),
             },
             Buffer::Words(out) => match lane {
-                Buffer::Words(numbers) => scatter(out.as_mut_slice(), numbers.as_slice(), run),
+                Buffer::Words(numbers) => scatter(out.as_mut_slice(), numbers.as_slice(), at, run),
                 _ => unreachable!(),
             },
             Buffer::Longs(out) => match lane {
-                Buffer::Longs(numbers) => scatter(out.as_mut_slice(), numbers.as_slice(), run),
+                Buffer::Longs(numbers) => scatter(out.as_mut_slice(), numbers.as_slice(), at, run),
                 _ => unreachable!(),
             },
             Buffer::Naturals(out) => match lane {
-                Buffer::Naturals(numbers) => scatter(out.as_mut_slice(), numbers.as_slice(), run),
+                Buffer::Naturals(numbers) => scatter(
+                    out.as_mut_slice(),
+                    numbers.as_slice(),
+                    at,
+                    run,
+                ),
                 _ => unreachable!(),
             },
+        }
+    }
+
+    /// Changes the numbers at the places of a run to numbers of its type, those of a list from its number `at` on.
+    pub(crate) fn put_numbers(&mut self, run: Run, numbers: &[i128], at: usize)
+        requires numbers { at + run.count ≤ length numbers.now }
+        requires there { LiesIn (length (cell_of self.old).numbers) run.start run.stride run.count }
+        requires typed { list_all (in_type (cell_of self.old).elem) (take run.count (drop at numbers.now)) ≡ true }
+        ensures { cell_of self.new ≡ with_places (cell_of self.old) (run_places run.start run.stride run.count)
+            (take run.count (drop at numbers.now)) }
+    {
+        let mut place = run.start as i64;
+        for i in 0..run.count {
+            self.put(place as u32, numbers[at + i]);
+            place += run.stride as i64;
         }
     }
 
@@ -94,33 +120,92 @@ impl Buffer {
     }
 }
 
-/// Copies the numbers of a run to the front of a list.
+/// Copies the numbers of a run to a list, from its place `at` on. With a stride of 1 known where it is compiled, the loop is a copy
+/// of a slice.
 #[inline(always)]
-fn gather<T: Copy>(out: &mut [T], source: &[T], run: Run)
-    requires out { run.count ≤ length out.old }
+fn gather<T: Copy>(out: &mut [T], at: usize, source: &[T], run: Run)
+    requires out { at + run.count ≤ length out.old }
     requires there { LiesIn (length source.now) run.start run.stride run.count }
     ensures length { length out.new ≡ length out.old }
-    ensures each { (i : ℕ) (d : T) → i < run.count → get_or out.new i d ≡ get_or source.now (run_place run.start run.stride i) d }
+    ensures each { (i : ℕ) (d : T) → i < run.count
+        → get_or out.new (at + i) d ≡ get_or source.now (run_place run.start run.stride i) d }
+    ensures before { (k : ℕ) (d : T) → k < at → get_or out.new k d ≡ get_or out.old k d }
+    ensures behind { (k : ℕ) (d : T) → at + run.count ≤ k → get_or out.new k d ≡ get_or out.old k d }
+{
+    if run.stride == 1 {
+        gather_by(
+            out,
+            at,
+            source,
+            Run {
+                start: run.start,
+                stride: 1,
+                count: run.count,
+            },
+        );
+        return;
+    }
+    gather_by(out, at, source, run);
+}
+
+/// The same, whatever is known of the stride.
+#[inline(always)]
+fn gather_by<T: Copy>(out: &mut [T], at: usize, source: &[T], run: Run)
+    requires out { at + run.count ≤ length out.old }
+    requires there { LiesIn (length source.now) run.start run.stride run.count }
+    ensures length { length out.new ≡ length out.old }
+    ensures each { (i : ℕ) (d : T) → i < run.count
+        → get_or out.new (at + i) d ≡ get_or source.now (run_place run.start run.stride i) d }
+    ensures before { (k : ℕ) (d : T) → k < at → get_or out.new k d ≡ get_or out.old k d }
+    ensures behind { (k : ℕ) (d : T) → at + run.count ≤ k → get_or out.new k d ≡ get_or out.old k d }
 {
     let mut place = run.start as i64;
     for i in 0..run.count {
-        out[i] = source[place as usize];
+        out[at + i] = source[place as usize];
         place += run.stride as i64;
     }
 }
 
-/// Copies the front of a list to the places of a run.
+/// Copies numbers of a list, from its place `at` on, to the places of a run. With a stride of 1 known where it is compiled, the loop
+/// is a copy of a slice.
 #[inline(always)]
-fn scatter<T: Native>(out: &mut [T], source: &[T], run: Run)
-    requires source { run.count ≤ length source.now }
+fn scatter<T: Native>(out: &mut [T], source: &[T], at: usize, run: Run)
+    requires source { at + run.count ≤ length source.now }
     requires there { LiesIn (length out.old) run.start run.stride run.count }
     ensures length { length out.new ≡ length out.old }
-    ensures written { map T.number out.new ≡ write (run_places run.start run.stride run.count) (take run.count (map T.number source.now)) (map T.number out.old) }
-    ensures typed { list_all (in_type T.elem) (take run.count (map T.number source.now)) ≡ true }
+    ensures written { map T.number out.new ≡ write (run_places run.start run.stride run.count)
+        (take run.count (drop at (map T.number source.now))) (map T.number out.old) }
+    ensures typed { list_all (in_type T.elem) (take run.count (drop at (map T.number source.now))) ≡ true }
+{
+    if run.stride == 1 {
+        scatter_by(
+            out,
+            source,
+            at,
+            Run {
+                start: run.start,
+                stride: 1,
+                count: run.count,
+            },
+        );
+        return;
+    }
+    scatter_by(out, source, at, run);
+}
+
+/// The same, whatever is known of the stride.
+#[inline(always)]
+fn scatter_by<T: Native>(out: &mut [T], source: &[T], at: usize, run: Run)
+    requires source { at + run.count ≤ length source.now }
+    requires there { LiesIn (length out.old) run.start run.stride run.count }
+    ensures length { length out.new ≡ length out.old }
+    ensures written { map T.number out.new ≡ write (run_places run.start run.stride run.count)
+        (take run.count (drop at (map T.number source.now))) (map T.number out.old) }
+    ensures typed { list_all (in_type T.elem) (take run.count (drop at (map T.number source.now))) ≡ true }
 {
     let mut place = run.start as i64;
     for i in 0..run.count {
-        out[place as usize] = source[i].itself();
+        out[place as usize] = source[at + i].itself();
         place += run.stride as i64;
     }
 }

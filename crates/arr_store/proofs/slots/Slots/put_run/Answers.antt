@@ -1,4 +1,4 @@
-use Rattle.std.proofs.Common.{◌≡◌, ◌∙◌, ap, sym, subst, IsSome, Some, take}
+use Rattle.std.proofs.Common.{◌≡◌, ◌∙◌, ap, sym, subst, IsSome, Some, drop, take}
 use Rattle.arr_ops.specs.Memory.{Cell}
 use Rattle.arr_store.specs.Buffers.{cell_of}
 use Rattle.arr_store.specs.Cells.{assigned}
@@ -25,7 +25,7 @@ returns c =
     let some : IsSome (slots_of c.args.self.now c.args.slot) = slot_some _ _ c.requires.slot in
     let at : slots_of c.args.self.now c.args.slot ≡ Some (slot_of c.index_mut-page.result.now) =
     page_at c.args.self.now c.self.inside.pages.items c.args.slot c.index_mut-page.result.now c.self.view_is some c.index_mut-page.ensures.value in
-    let xs = take c.args.run.count (cell_of c.args.lane.now).numbers in
+    let xs = take c.args.run.count (drop c.args.at (cell_of c.args.lane.now).numbers) in
     page_changed c.args.self.now c.self.inside.pages.items c.args.slot (record { shape = c.index_mut-page.result.now.shape; numbers = c.store_run.new.self }) c.self.view_is some
     ∙ ap (λ (k : Cell). assigned (slots_of c.args.self.now) c.args.slot (Some (record { elem = k.elem; lengths = c.index_mut-page.result.now.shape; numbers = k.numbers }))) c.store_run.ensures.cell
     ∙ sym (ap (λ s. assigned (slots_of c.args.self.now) c.args.slot (with_slot_run s c.args.run.start c.args.run.stride c.args.run.count xs)) at)

@@ -1,4 +1,4 @@
-use Rattle.std.proofs.Common.{◌≡◌, ◌∙◌, ap, sym, subst, refl, IsSome, IsTrue, Some, arith, ◌+◌, ◌*◌, ◌<◌, length, set, take}
+use Rattle.std.proofs.Common.{◌≡◌, ◌∙◌, ap, sym, subst, refl, IsSome, IsTrue, Some, arith, ◌+◌, ◌*◌, ◌<◌, drop, length, set, take}
 use Rattle.std.specs.Option.{option_copied_mut}
 use Rattle.arr_store.specs.Buffers.{cell_of}
 use Rattle.arr_store.specs.Cells.{assigned, lawful, size_at, width_at}
@@ -57,7 +57,7 @@ keeps c =
     subst (IsKept (length c.self.inside.index.items)) (sym c.get_mut.ensures.value ∙ ap option_copied_mut c.in-Some.is) (c.self.invariant c.index.result.now) in (
       old.0,
       subst (λ k. IsTrue (lawful k)) (sym c.store_run.ensures.cell)
-          (lawful_run (cell_of c.in-Some.kept.now.buffer) (run_places c.args.run.start c.args.run.stride c.args.run.count) (take c.args.run.count (cell_of c.args.lane.now).numbers) c.store_run.ensures.typed old.1),
+          (lawful_run (cell_of c.in-Some.kept.now.buffer) (run_places c.args.run.start c.args.run.stride c.args.run.count) (take c.args.run.count (drop c.args.at (cell_of c.args.lane.now).numbers)) c.store_run.ensures.typed old.1),
     )
 
 pub invariant_of-self : goal.invariant_of-self
@@ -72,10 +72,10 @@ returns-clause-bases c =
     let some : IsSome (cells c.args.self.now c.args.base) = of_some _ _ c.requires.base in
     let view = ap (λ (s : Stored). s.bases) c.self.view_is in
     let l : c.args.base < length c.self.inside.index.items = in_index c.args.self.now.bases c.self.inside.index.items c.self.inside.buffers.slots c.args.base view some in
-    let xs = take c.args.run.count (cell_of c.args.lane.now).numbers in
-    let new : held (Some (stored c)) c.args.base ≡ with_run (cells c.args.self.now c.args.base) c.args.run.start c.args.run.stride c.args.run.count (take c.args.run.count (cell_of c.args.lane.now).numbers) =
+    let xs = take c.args.run.count (drop c.args.at (cell_of c.args.lane.now).numbers) in
+    let new : held (Some (stored c)) c.args.base ≡ with_run (cells c.args.self.now c.args.base) c.args.run.start c.args.run.stride c.args.run.count (take c.args.run.count (drop c.args.at (cell_of c.args.lane.now).numbers)) =
     held_own (stored c) c.args.base (at_base c).0 ∙ ap Some c.store_run.ensures.cell
-    ∙ sym (ap (λ o. with_run o c.args.run.start c.args.run.stride c.args.run.count (take c.args.run.count (cell_of c.args.lane.now).numbers)) (at_base c).1) in
+    ∙ sym (ap (λ o. with_run o c.args.run.start c.args.run.stride c.args.run.count (take c.args.run.count (drop c.args.at (cell_of c.args.lane.now).numbers))) (at_base c).1) in
     shown_after c.args.self.now.bases c.self.inside.index.items c.self.inside.index.items c.self.inside.buffers.slots (set c.self.inside.buffers.slots c.index.result.now (Some (stored c))) c.args.base c.index.result.now (Some (stored c))
     view c.self.invariant (invariant_of-self c) (changes c)
     (own_here c.args.self.now.bases c.self.inside.index.items c.self.inside.buffers.slots c.args.base c.index.result.now view c.self.invariant some c.index.ensures)
