@@ -49,7 +49,7 @@ ends_end (x ∷ xs) op h = ends_end xs op (next x h)
 pub ends_more : (ops : List Op) (k : ℕ) (op : Op) (h : Columns) → k < length ops → op ≡ get_or ops k op → ends (take (k + 1) ops) h ≡ next op (ends (take k ops) h)
 ends_more ops k op h l e = ap (λ xs. ends xs h) (take_more ops k op l ∙ ap (λ y. take k ops ++ y ∷ []) (sym e)) ∙ ends_end (take k ops) op h
 
-total_end : {X : Type 0} (w : X → ℕ) (xs : List X) (x : X) → total w (xs ++ x ∷ []) ≡ total w xs + w x
+pub total_end : {X : Type 0} (w : X → ℕ) (xs : List X) (x : X) → total w (xs ++ x ∷ []) ≡ total w xs + w x
 total_end w [] x = omega arith
 total_end w (y ∷ xs) x = let e : total w (xs ++ x ∷ []) ≡ total w xs + w x = total_end w xs x in omega arith
 

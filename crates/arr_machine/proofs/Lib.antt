@@ -11,3 +11,7 @@ pub mod Scans
 pub mod Shows
 pub mod Rests
 pub mod Steadies
+pub mod Loads
+pub mod Saves
+pub mod Walking
+pub mod Gates

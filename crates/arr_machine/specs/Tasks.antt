@@ -51,15 +51,18 @@ WorkOf ops room lanes op Positions = op.code ≡ Range
 abbrev pub IsOutput : List Op → Op → ℕ → Type 0
 IsOutput ops op lane = (o : Strided) × ((op.out ≡ Some o) × (lane ≡ number_in (register_views ops) o))
 
--- what operation k folds along an axis: the register of its input, where its own numbers are kept, and the axis
-pub record IsAlong (ops : List Op) (k : ℕ) (op : Op) (along : Along) : Type 0 where
+-- what an operation folds along an axis: the register of its input, where its own numbers are kept, and the axis
+pub record IsAlongAt (views : List Strided) (at : ℕ) (op : Op) (along : Along) : Type 0 where
   pub code : along.code ≡ op.code
   pub elem : along.elem ≡ op.to
-  pub source : (v : Strided) × ((op.first ≡ Some (Array v)) × (along.source ≡ number_in (register_views ops) v))
-  pub kept : along.kept ≡ kept_from ops k
+  pub source : (v : Strided) × ((op.first ≡ Some (Array v)) × (along.source ≡ number_in views v))
+  pub kept : along.kept ≡ at
   pub outer : along.axis.outer ≡ outer_of op
   pub rows : along.axis.length ≡ axis_length op
   pub inner : along.axis.inner ≡ inner_of op
+
+abbrev pub IsAlong : List Op → ℕ → Op → Along → Type 0
+IsAlong ops k op along = IsAlongAt (register_views ops) (kept_from ops k) op along
 
 -- a task is what operation k does to lanes, to the numbers that are kept, and to slots
 abbrev pub IsTask : List Op → ℕ → List Buffer → ℕ → Op → Task → Type 0

@@ -14,8 +14,12 @@
 #![tactic(auto)]
 
 mod folds;
+mod port;
 mod run;
 mod task;
+mod walk;
 
+pub use port::Port;
 pub use run::run_tasks;
 pub use task::{Along, Task};
+pub use walk::Machine;
