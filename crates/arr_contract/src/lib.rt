@@ -13,9 +13,13 @@
 #![tactic(auto)]
 
 mod contracted;
+mod lanes;
 mod laws;
+mod making;
 mod prepared;
 mod scratch;
+mod storing;
+mod tasks;
 
 pub use laws::blocks_weigh;
 pub use prepared::Prepared;

@@ -10,8 +10,10 @@ ghost use Rattle.arr_contract.specs.Prepared.{IsBlockOf, may_share_block};
 
 use crate::NoMemory;
 use crate::contracted::contracted;
+use crate::making::machine_for;
 use crate::scratch::{scratch, some_serial};
-use arr_cost::{block_ops, block_reads, block_writes};
+use arr_cost::{block_ops, block_reads, block_views, block_writes};
+use arr_machine::Machine;
 use arr_ops::Op;
 use arr_sets::MOST;
 use arr_view::View;
@@ -28,21 +30,23 @@ pub struct Prepared {
     contracted_bases: Vec<u32>,
     is_serial: bool,
     numbers: Vec<i128>,
+    machine: Machine,
 }
 
 impl Model for Prepared {
-    ghost use Rattle.std.specs.Prelude.{◌≡◌, ◌≤◌, IsTrue, length};
+    ghost use Rattle.std.specs.Prelude.{◌≡◌, ◌≤◌, IsTrue, false, length};
     ghost use Rattle.std.specs.List.{list_any};
     ghost use Rattle.arr_ops.specs.Costs.{reads, writes};
     ghost use Rattle.arr_ops.specs.Ops.{serial};
     ghost use Rattle.arr_ops.specs.Traffic.{contracted, scratch};
+    ghost use Rattle.arr_machine.specs.Machines.{IsMachineOf};
     ghost use Rattle.arr_contract.specs.Prepared.{PreparedBlock, may_share_block};
 
     ghost Value = { PreparedBlock };
 
     ghost view = { λ p. record { ops = p.ops.items; numbers = p.numbers.items } };
 
-    ghost invariant = { λ p. (IsTrue (may_share_block p.ops.items)) × (length p.ops.items ≤ 256) × (p.read_views.items ≡ reads p.ops.items) × (p.written_views.items ≡ writes p.ops.items) × (p.contracted_bases.items ≡ contracted p.ops.items) × (p.is_serial ≡ list_any serial p.ops.items) × (length p.numbers.items ≡ scratch p.ops.items) };
+    ghost invariant = { λ p. (IsTrue (may_share_block p.ops.items)) × (length p.ops.items ≤ 256) × (p.read_views.items ≡ reads p.ops.items) × (p.written_views.items ≡ writes p.ops.items) × (p.contracted_bases.items ≡ contracted p.ops.items) × (p.is_serial ≡ list_any serial p.ops.items) × (length p.numbers.items ≡ scratch p.ops.items) × (p.is_serial ≡ false → IsMachineOf p.ops.items p.machine) };
 }
 
 impl Prepared {
@@ -61,6 +65,8 @@ impl Prepared {
         let is_serial = some_serial(alloc, ops.as_slice())?;
         let count = scratch(alloc, ops.as_slice())?;
         let numbers = vec![in alloc; 0; count]?;
+        let views = block_views(alloc, ops.as_slice())?;
+        let machine = machine_for(alloc, ops.as_slice(), views.as_slice(), is_serial)?;
         Ok(Prepared {
             ops,
             read_views,
@@ -68,6 +74,7 @@ impl Prepared {
             contracted_bases,
             is_serial,
             numbers,
+            machine,
         })
     }
 

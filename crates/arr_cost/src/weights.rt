@@ -31,8 +31,9 @@ fn type_in(op: &Op, base: u32) -> Option<Elem>
     None
 }
 
-/// The type of a base of a list.
-fn elem_of(list: &[Op], base: u32) -> Elem
+/// The type of a base of a list: what the first operation that names it gives it; u8 where none does (docs/LANGUAGE.md, "Operations"). It
+/// takes no memory.
+pub fn elem_of(list: &[Op], base: u32) -> Elem
     ensures { result ≡ elem_of list.now base }
 {
     for op in list {

@@ -27,12 +27,12 @@ axis_there op after h =
     let f = both_right (is_none op.frees) _ d in
     both_left (is_some op.axis) _ (both_right (same_elem op.to op.from) _ f)
 
-axis_kept : (k : Kind) (op : Op) → (folds k || scans k) ≡ true → operands_kept k op ≡ true → is_some op.axis ≡ true
+pub axis_kept : (k : Kind) (op : Op) → (folds k || scans k) ≡ true → operands_kept k op ≡ true → is_some op.axis ≡ true
 axis_kept Reduction op h kept = axis_there op dropped_axis kept
 axis_kept Scan op h kept = axis_there op (λ axis lengths. lengths) kept
 axis_kept _ op h kept = absurd (false≢true h)
 
-some_at : {X : Type 0} (x : Option X) → is_some x ≡ true → (y : X) × (x ≡ Some y)
+pub some_at : {X : Type 0} (x : Option X) → is_some x ≡ true → (y : X) × (x ≡ Some y)
 some_at None h = absurd (false≢true h)
 some_at (Some y) h = (y, refl)
 
@@ -42,7 +42,7 @@ second_none op after h =
     let b = both_right (is_array op.first) _ a in
     none_from op.second (both_left (is_none op.second) _ b)
 
-second_kept : (k : Kind) (op : Op) → (folds k || scans k) ≡ true → operands_kept k op ≡ true → op.second ≡ None
+pub second_kept : (k : Kind) (op : Op) → (folds k || scans k) ≡ true → operands_kept k op ≡ true → op.second ≡ None
 second_kept Reduction op h kept = second_none op dropped_axis kept
 second_kept Scan op h kept = second_none op (λ axis lengths. lengths) kept
 second_kept _ op h kept = absurd (false≢true h)
