@@ -15,3 +15,4 @@ pub mod Loads
 pub mod Saves
 pub mod Walking
 pub mod Gates
+pub mod Begins

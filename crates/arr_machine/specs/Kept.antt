@@ -1,6 +1,7 @@
 -- What a block keeps for its operations, from position to position.
 use Rattle.std.specs.Prelude.{ℕ, ℤ, pos, suc, ◌≡◌, ◌+◌, ◌%◌, ◌<◌, ◌≤◌, nat_lt, true, List, cond, get_or, drop, take, length}
 use Rattle.arr_num.specs.Kinds.{is_reduction, is_scan}
+use Rattle.arr_num.specs.Numbers.{fold_start}
 use Rattle.arr_view.specs.Views.{positions}
 use Rattle.arr_ops.specs.declared.op.Op.{Op}
 use Rattle.arr_ops.specs.Costs.{total}
@@ -34,3 +35,11 @@ AllKept ops k done left h xs = (j : ℕ) (op : Op) → j < length ops → op ≡
 -- what is kept for each operation is of its type
 abbrev pub TypedKept : List Op → List ℤ → Type 0
 TypedKept ops xs = (j : ℕ) (op : Op) → j < length ops → op ≡ get_or ops j op → AreOf op.to xs (kept_from ops j) (kept_for op)
+
+-- the accumulators of the reductions among the first k operations are at the starts of their folds
+abbrev pub StartsBelow : List Op → ℕ → List ℤ → Type 0
+StartsBelow ops k xs = (j : ℕ) (op : Op) → j < k → j < length ops → op ≡ get_or ops j op → is_reduction op.code ≡ true → (l : ℕ) → l < count op → kept_at xs (kept_from ops j) l ≡ fold_start op.code op.to
+
+-- the accumulators of each reduction are at the start of its fold
+abbrev pub StartsFolds : List Op → List ℤ → Type 0
+StartsFolds ops xs = (j : ℕ) (op : Op) → j < length ops → op ≡ get_or ops j op → is_reduction op.code ≡ true → (l : ℕ) → l < count op → kept_at xs (kept_from ops j) l ≡ fold_start op.code op.to

@@ -13,12 +13,14 @@
 //! lanes stand for its operands.
 #![tactic(auto)]
 
+mod begin;
 mod folds;
 mod port;
 mod run;
 mod task;
 mod walk;
 
+pub use begin::begin_folds;
 pub use port::Port;
 pub use run::run_tasks;
 pub use task::{Along, Task};
