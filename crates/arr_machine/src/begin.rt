@@ -38,7 +38,14 @@ fn start_fold(along: Along, numbers: &mut [i128])
 }
 
 /// Sets the accumulators of an operation that is a reduction to the start of its fold.
-fn start_task(_ops: &[Op], _index: usize, task: Task, _lanes: &[Buffer], numbers: &mut [i128], _room: usize)
+fn start_task(
+    _ops: &[Op],
+    _index: usize,
+    task: Task,
+    _lanes: &[Buffer],
+    numbers: &mut [i128],
+    _room: usize,
+)
     requires block { is_block _ops.now ≡ true }
     requires types { each_typed _ops.now ≡ true }
     requires there { _index < length _ops.now }
