@@ -1,5 +1,5 @@
 -- Operations of a block one after another: their lists, where their numbers are kept, and the rooms of what folds.
-use Rattle.std.proofs.Common.{◌≡◌, ◌≢◌, ℕ, zero, suc, ◌+◌, ◌*◌, ◌/◌, ◌%◌, ◌<◌, ◌≤◌, ℤ, List, [], ◌∷◌, ◌++◌, Bool, true, false, cond, ◌||◌, Option, Some, None, length, get_or, take, drop, refl, ap, sym, subst, ◌∙◌, arith}
+use Rattle.std.proofs.Common.{◌≡◌, ◌≢◌, ℕ, zero, suc, ◌+◌, ◌*◌, ◌/◌, ◌%◌, ◌<◌, ◌≤◌, ℤ, List, [], ◌∷◌, ◌++◌, Bool, true, false, cond, ◌||◌, Option, Some, None, length, get_or, take, refl, ap, sym, subst, ◌∙◌, arith}
 use Rattle.std.proofs.Math.Nat.{le-div_iff_mul-le, mod-lt, mul-le-mul_right, mul_comm}
 use Rattle.std.specs.Prelude.{nat_lt}
 use Rattle.std.specs.List.{AllByRecursion}
@@ -8,7 +8,7 @@ use Rattle.std.proofs.lemmas.Bool.{false≢true, true≢false, le-ltb, lt-ltb, l
 use Rattle.std.proofs.lemmas.List.{get_or_default, take_more}
 use Rattle.arr_num.specs.declared.code.Code.{Code}
 use Rattle.arr_num.specs.declared.code.Code.TheVariants.{Range}
-use Rattle.arr_num.specs.Kinds.{folds, is_fold, is_reduction, is_scan, kind, scans}
+use Rattle.arr_num.specs.Kinds.{folds, is_fold, is_reduction, is_scan, scans}
 use Rattle.arr_view.specs.Strided.{Strided}
 use Rattle.arr_view.specs.Views.{identical, positions}
 use Rattle.arr_ops.specs.declared.op.Op.{Op}
@@ -20,12 +20,12 @@ use Rattle.arr_ops.specs.Memory.{lengths_of, or_zero, out_lengths}
 use Rattle.arr_ops.specs.Ops.{serial, view_of}
 use Rattle.arr_ops.specs.Traffic.{axis_length, kept_for, out_positions, scratch}
 use Rattle.arr_ops.proofs.Lengths.{positions_at}
-use Rattle.arr_strips.specs.Columns.{Columns, Row, column, count, ends, first_taken, next, taken}
+use Rattle.arr_strips.specs.Columns.{Columns, Row, count, ends, first_taken, next, taken}
 use Rattle.arr_strips.specs.Registers.{number_in, register_views}
 use Rattle.arr_strips.specs.Strips.{loaded}
-use Rattle.arr_strips.specs.Sums.{gathered_by, lane_number}
+use Rattle.arr_strips.specs.Sums.{lane_number}
 use Rattle.arr_strips.proofs.Folds.{Spot, spot_of}
-use Rattle.arr_strips.proofs.Sorts.{AtShape, Reducing, sorts, walked_plain, walked_reducing}
+use Rattle.arr_strips.proofs.Sorts.{AtShape, sorts, walked_plain, walked_reducing}
 use Rattle.arr_sums.specs.Kept.{kept_at}
 use Rattle.arr_machine.specs.Kept.{OpKept, inner_of, kept_from, outer_of}
 use Rattle.arr_machine.proofs.Axes.{axis_inside_it, view_kept}

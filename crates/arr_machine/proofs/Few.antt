@@ -1,12 +1,12 @@
 -- A block has few positions.
-use Rattle.std.proofs.Common.{◌≡◌, ℕ, ◌≤◌, List, [], ◌∷◌, true, cond, ◌&&◌, Some, length, map, ap, subst, sym, ◌∙◌, arith}
+use Rattle.std.proofs.Common.{◌≡◌, ◌≤◌, List, [], ◌∷◌, true, cond, Some, map, ap, subst, sym, ◌∙◌, arith}
 use Rattle.std.specs.Prelude.{nat_le}
 use Rattle.std.specs.List.{AllByRecursion, list_all}
 use Rattle.std.specs.Option.{option_to_list}
 use Rattle.std.proofs.lemmas.Bool.{leb-true}
 use Rattle.arr_num.specs.Kinds.{walks}
 use Rattle.arr_view.specs.Strided.{Strided}
-use Rattle.arr_view.specs.Views.{has_rank, is_place, is_view, places, positions, strides_kept}
+use Rattle.arr_view.specs.Views.{has_rank, is_view, positions, strides_kept}
 use Rattle.arr_ops.specs.declared.op.Op.{Op}
 use Rattle.arr_ops.specs.Formed.{well_formed}
 use Rattle.arr_ops.specs.Ops.{inputs, outputs, walked}

@@ -1,27 +1,22 @@
 -- An element-wise operation at a strip.
 use Rattle.std.proofs.Common.{◌≡◌, ℕ, ◌+◌, ◌<◌, ◌≤◌, ℤ, List, true, false, cond, Option, Some, None, length, get_or, take, drop, ◌++◌, refl, ap, ap₂, sym, subst, ◌∙◌, arith}
 use Rattle.std.specs.Prelude.{◌==◌, slice_get}
-use Rattle.std.specs.List.{AllByRecursion}
-use Rattle.std.proofs.lemmas.Bool.{eqb-true, eqb-false, false≢true}
+use Rattle.std.proofs.lemmas.Bool.{false≢true}
 use Rattle.std.proofs.lemmas.List.{append-nil, drop_all, take_all}
 use Rattle.arr_num.specs.Kinds.{Kind, Scan, binds_one, binds_two, counts, is_element_wise, is_reduction, is_scan, kind, scans}
-use Rattle.arr_num.specs.Numbers.{value}
 use Rattle.arr_view.specs.Strided.{Strided}
 use Rattle.arr_ops.specs.declared.op.Op.{Op}
 use Rattle.arr_ops.specs.Memory.{Slot}
 use Rattle.arr_store.specs.declared.buffer.Buffer.{Buffer}
-use Rattle.arr_strips.specs.Blocks.{block_positions}
-use Rattle.arr_strips.specs.Columns.{Columns, column, ends, fills, first_taken, taken}
+use Rattle.arr_strips.specs.Columns.{column, ends, fills}
 use Rattle.arr_strips.specs.Registers.{line_value, number_in, register_views}
-use Rattle.arr_strips.specs.Strips.{loaded}
 use Rattle.arr_strips.proofs.Sorts.{sorts}
 use Rattle.arr_strips.proofs.Values.{column_zip, zips}
 use Rattle.arr_lanes.specs.declared.line.Line.{Line}
 use Rattle.arr_lanes.specs.Lanes.{Becomes, IsLane, LineFits, number, registers, shown}
 use Rattle.arr_lanes.proofs.Places.{becomes_number, lane_stays}
-use Rattle.arr_machine.specs.Kept.{kept_from}
 use Rattle.arr_machine.specs.declared.task.Task.TheVariants.{Line as line_task}
-use Rattle.arr_machine.specs.Standing.{Advances, IsReady, IsStripOf, Standing}
+use Rattle.arr_machine.specs.Standing.{Advances, IsStripOf}
 use Rattle.arr_machine.specs.Tasks.{IsTask, Steady, TypedLanes}
 use Rattle.arr_machine.proofs.Blocks.{register_below}
 use Rattle.arr_machine.proofs.Operands.{work_fits, work_value, zips_all}

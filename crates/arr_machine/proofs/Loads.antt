@@ -1,8 +1,8 @@
 -- Views loaded into lanes, one after another.
-use Rattle.std.proofs.Common.{◌≡◌, ℕ, zero, suc, ◌+◌, ◌*◌, ◌<◌, ◌≤◌, ℤ, pos, List, [], ◌∷◌, ◌++◌, Bool, true, false, cond, ◌||◌, Option, Some, None, length, get_or, take, refl, ap, ap₂, sym, subst, ◌∙◌, arith}
+use Rattle.std.proofs.Common.{◌≡◌, ℕ, zero, suc, ◌+◌, ◌*◌, ◌<◌, ◌≤◌, pos, List, [], ◌∷◌, ◌++◌, true, false, ◌||◌, Option, Some, None, length, get_or, take, refl, ap, ap₂, sym, subst, ◌∙◌, arith}
 use Rattle.std.specs.Prelude.{◌==◌, slice_get, slice_set}
 use Rattle.std.specs.List.{AllByRecursion}
-use Rattle.std.proofs.lemmas.Bool.{eq-eqb, eqb-true, eqb-false, false≢true}
+use Rattle.std.proofs.lemmas.Bool.{eqb-true, eqb-false, false≢true}
 use Rattle.std.proofs.lemmas.List.{get_or_default, length-set, take_all, take_more}
 use Rattle.std.proofs.Math.Nat.{mul-le-mul_left}
 use Rattle.arr_num.specs.declared.elem.Elem.{Elem}
@@ -10,11 +10,10 @@ use Rattle.arr_num.specs.Numbers.{width}
 use Rattle.arr_view.specs.Strided.{Strided}
 use Rattle.arr_view.specs.Views.{identical}
 use Rattle.arr_ops.specs.declared.op.Op.{Op}
-use Rattle.arr_ops.specs.Costs.{elem_of, reads, total}
+use Rattle.arr_ops.specs.Costs.{reads, total}
 use Rattle.arr_ops.specs.Memory.{Cell}
 use Rattle.arr_store.specs.Buffers.{cell_of}
 use Rattle.arr_store.specs.Cells.{number_at, width_at}
-use Rattle.arr_store.specs.Runs.{IsOf}
 use Rattle.arr_store.specs.declared.buffer.Buffer.{Buffer}
 use Rattle.arr_strips.specs.Columns.{place_at}
 use Rattle.arr_strips.specs.Registers.{number_in, register_views}
@@ -23,8 +22,7 @@ use Rattle.arr_strips.proofs.Registers.{one_number}
 use Rattle.arr_strips.proofs.Sames.{same_base, same_elements}
 use Rattle.arr_lanes.specs.Lanes.{IsLane, lane_number, number}
 use Rattle.arr_lanes.proofs.Places.{set_elsewhere, set_here}
-use Rattle.arr_machine.specs.Ports.{IsPort, IsThere}
-use Rattle.arr_machine.specs.Tasks.{Steady, TypedLanes}
+use Rattle.arr_machine.specs.Tasks.{Steady}
 use Rattle.arr_machine.proofs.Blocks.{register_below, total_end}
 
 -- identical views have the same number at a position

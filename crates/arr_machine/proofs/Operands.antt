@@ -1,14 +1,13 @@
 -- Operands of element-wise operations, by their lanes.
-use Rattle.std.proofs.Common.{◌≡◌, ℕ, ◌+◌, ◌<◌, ℤ, pos, List, [], ◌∷◌, Bool, true, false, not, ◌||◌, ◌&&◌, Option, Some, None, refl, ap, ap₂, sym, subst, ◌∙◌, length, get_or, map, ◌++◌}
-use Rattle.std.specs.Prelude.{IsTrue, is_none, is_some, slice_get}
-use Rattle.std.specs.List.{AllByRecursion, list_all}
-use Rattle.std.specs.Option.{option_to_list}
+use Rattle.std.proofs.Common.{◌≡◌, ℕ, ◌<◌, ℤ, pos, List, Bool, true, false, ◌||◌, Option, Some, None, refl, ap, ap₂, sym, subst, ◌∙◌}
+use Rattle.std.specs.Prelude.{is_none, is_some, slice_get}
+use Rattle.std.specs.List.{AllByRecursion}
 use Rattle.std.proofs.lemmas.Bool.{false≢true, true≢false}
 use Rattle.arr_num.specs.declared.elem.Elem.{Elem}
 use Rattle.arr_num.specs.declared.elem.Elem.TheVariants.{U8}
 use Rattle.arr_num.specs.declared.code.Code.{Code}
-use Rattle.arr_num.specs.declared.code.Code.TheVariants.{Power as power_code, Equal, NotEqual, Less, LessEqual, Greater, GreaterEqual, Absolute, Invert, Identity, Range, AddReduce, MultiplyReduce, MinimumReduce, MaximumReduce, AddAccumulate, MultiplyAccumulate, Free, Sync}
-use Rattle.arr_num.specs.Kinds.{Kind, Binary, Unary, Counting, Reduction, Scan, Ending, Printing, binds_one, binds_two, counts, is_binary, is_element_wise, is_unary, kind}
+use Rattle.arr_num.specs.declared.code.Code.TheVariants.{Equal, NotEqual, Less, LessEqual, Greater, GreaterEqual, Absolute, Invert, Identity, Range, AddReduce, MultiplyReduce, MinimumReduce, MaximumReduce, AddAccumulate, MultiplyAccumulate, Free, Sync}
+use Rattle.arr_num.specs.Kinds.{Kind, Binary, Unary, Counting, binds_one, binds_two, counts, is_binary, is_unary, kind}
 use Rattle.arr_num.specs.Numbers.{value}
 use Rattle.arr_vector.specs.Sorts.{is_arithmetic, is_comparison}
 use Rattle.arr_view.specs.Strided.{Strided}
@@ -16,11 +15,10 @@ use Rattle.arr_ops.specs.declared.op.Op.{Op}
 use Rattle.arr_ops.specs.declared.op.Operand.{Operand}
 use Rattle.arr_ops.specs.declared.op.Operand.TheVariants.{Array, Number}
 use Rattle.arr_ops.specs.Costs.{elem_of}
-use Rattle.arr_ops.specs.Formed.{each_typed, elementwise, operands_kept, same_elem, same_types, typed, types_kept, well_formed}
-use Rattle.arr_ops.specs.Ops.{freed, inputs, outputs, view_of}
-use Rattle.arr_ops.proofs.Pairs.{All_weaker}
-use Rattle.arr_ops.proofs.Spots.{all_left, all_mapped, all_right, none_from, operands_of, same_elem_is, types_of}
-use Rattle.arr_ops.proofs.Tests.{all_of, both_left, both_right}
+use Rattle.arr_ops.specs.Formed.{elementwise, operands_kept, typed, types_kept, well_formed}
+use Rattle.arr_ops.specs.Ops.{inputs, view_of}
+use Rattle.arr_ops.proofs.Spots.{all_left, all_right, none_from, operands_of, same_elem_is, types_of}
+use Rattle.arr_ops.proofs.Tests.{both_left, both_right}
 use Rattle.arr_store.specs.declared.buffer.Buffer.{Buffer}
 use Rattle.arr_strips.specs.Columns.{Row, first_taken, taken}
 use Rattle.arr_strips.specs.Registers.{line_value, number_in, register_views}
@@ -29,9 +27,7 @@ use Rattle.arr_strips.proofs.Values.{zips}
 use Rattle.arr_lanes.specs.declared.line.Work.{Work}
 use Rattle.arr_lanes.specs.declared.line.Work.TheVariants.{Arithmetic, Comparison, Power, Conversion, Positions}
 use Rattle.arr_lanes.specs.Lanes.{IsLane, WorkFits, number, registers, shown_work}
-use Rattle.arr_machine.specs.Tasks.{Holds, Stands, TypedLanes, WorkOf}
-use Rattle.arr_machine.proofs.Blocks.{all_get}
-use Rattle.arr_machine.proofs.Types.{inputs_of_type}
+use Rattle.arr_machine.specs.Tasks.{Stands, TypedLanes, WorkOf}
 
 -- ---- codes
 

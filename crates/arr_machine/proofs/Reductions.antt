@@ -1,20 +1,18 @@
 -- A reduction at a strip.
-use Rattle.std.proofs.Common.{◌≡◌, ℕ, zero, suc, ◌+◌, ◌*◌, ◌<◌, ◌≤◌, ℤ, List, true, false, cond, ◌||◌, Option, Some, None, length, get_or, take, refl, ap, ap₂, sym, subst, ◌∙◌, arith}
+use Rattle.std.proofs.Common.{◌≡◌, ℕ, ◌+◌, ◌*◌, ◌<◌, ◌≤◌, ℤ, List, true, cond, ◌||◌, Option, None, length, get_or, take, ap, ap₂, sym, subst, ◌∙◌, arith}
 use Rattle.std.specs.Prelude.{slice_get}
-use Rattle.std.proofs.lemmas.Bool.{false≢true, true≢false}
-use Rattle.std.proofs.Math.Nat.{mul-le-mul_left, mul-le-mul_right, mul_comm}
-use Rattle.arr_num.specs.Kinds.{Reduction, folds, is_fold, is_reduction, kind, scans}
+use Rattle.std.proofs.lemmas.Bool.{true≢false}
+use Rattle.std.proofs.Math.Nat.{mul-le-mul_left, mul-le-mul_right}
+use Rattle.arr_num.specs.Kinds.{folds, is_fold, scans}
 use Rattle.arr_num.specs.Numbers.{fold_start, value}
 use Rattle.arr_view.specs.Strided.{Strided}
-use Rattle.arr_view.specs.Views.{positions}
 use Rattle.arr_ops.specs.declared.op.Op.{Op}
-use Rattle.arr_ops.specs.declared.op.Operand.TheVariants.{Array}
 use Rattle.arr_ops.specs.Memory.{Slot}
 use Rattle.arr_ops.specs.Ops.{view_of}
 use Rattle.arr_ops.specs.Traffic.{axis_length, kept_for, scratch}
 use Rattle.arr_store.specs.declared.buffer.Buffer.{Buffer}
 use Rattle.arr_strips.specs.Blocks.{block_positions}
-use Rattle.arr_strips.specs.Columns.{Columns, column, count, ends, fills, taken}
+use Rattle.arr_strips.specs.Columns.{Columns, count, ends, taken}
 use Rattle.arr_strips.specs.Registers.{number_in, register_views}
 use Rattle.arr_strips.proofs.Sorts.{sorts}
 use Rattle.arr_lanes.specs.Lanes.{IsLane, number}
@@ -25,7 +23,7 @@ use Rattle.arr_machine.specs.declared.task.Along.{Along}
 use Rattle.arr_machine.specs.declared.task.Task.TheVariants.{Fold}
 use Rattle.arr_machine.specs.Standing.{Advances, IsReady, IsStripOf, Standing}
 use Rattle.arr_machine.specs.Tasks.{IsAlong, IsTask}
-use Rattle.arr_machine.proofs.Axes.{fold_type, view_kept}
+use Rattle.arr_machine.proofs.Axes.{fold_type}
 use Rattle.arr_machine.proofs.Blocks.{Lines, kept_inside}
 use Rattle.arr_machine.proofs.Few.{few_block}
 use Rattle.arr_machine.proofs.Operands.{stands_typed}

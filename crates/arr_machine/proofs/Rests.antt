@@ -1,11 +1,11 @@
 -- From strip to strip.
-use Rattle.std.proofs.Common.{◌≡◌, ℕ, zero, suc, ◌+◌, ◌<◌, ◌≤◌, ℤ, pos, List, [], ◌∷◌, ◌++◌, Bool, true, false, cond, ◌||◌, Option, None, length, get_or, take, drop, refl, ap, sym, subst, ◌∙◌, arith}
+use Rattle.std.proofs.Common.{◌≡◌, ℕ, suc, ◌+◌, ◌<◌, ◌≤◌, ℤ, List, [], ◌∷◌, ◌++◌, Bool, true, false, cond, Option, None, length, get_or, take, drop, refl, ap, sym, subst, ◌∙◌, arith}
 use Rattle.std.specs.Prelude.{nat_lt}
 use Rattle.std.specs.List.{AllByRecursion}
 use Rattle.std.specs.Option.{option_to_list}
-use Rattle.std.proofs.lemmas.Bool.{false≢true, le-ltb, lt-ltb, ltb-false, ltb-true, true≢false}
-use Rattle.std.proofs.lemmas.List.{append_assoc, length-append, take_all}
-use Rattle.arr_num.specs.Kinds.{folds, is_reduction, is_scan, kind, scans}
+use Rattle.std.proofs.lemmas.Bool.{false≢true, le-ltb, lt-ltb, ltb-true}
+use Rattle.std.proofs.lemmas.List.{append_assoc, length-append}
+use Rattle.arr_num.specs.Kinds.{is_reduction, is_scan, scans}
 use Rattle.arr_num.specs.Numbers.{fold_start, value}
 use Rattle.arr_view.specs.Strided.{Strided}
 use Rattle.arr_view.specs.Views.{positions}
@@ -19,7 +19,7 @@ use Rattle.arr_strips.specs.Blocks.{block_positions}
 use Rattle.arr_strips.specs.Columns.{Columns, column, count, ends, filled, next, taken}
 use Rattle.arr_strips.specs.Registers.{number_in, register_views}
 use Rattle.arr_strips.specs.Strips.{joined, loaded}
-use Rattle.arr_strips.specs.Sums.{AllGathered, gathered_by}
+use Rattle.arr_strips.specs.Sums.{AllGathered}
 use Rattle.arr_strips.proofs.Blocks.{Block, alones, next_same}
 use Rattle.arr_strips.proofs.Sorts.{sorts}
 use Rattle.arr_strips.proofs.Stages.{Alone}
@@ -27,11 +27,10 @@ use Rattle.arr_strips.proofs.Sums.{gathered_same}
 use Rattle.arr_strips.proofs.Values.{Columnar}
 use Rattle.arr_lanes.specs.Lanes.{number}
 use Rattle.arr_sums.specs.Kept.{kept_at}
-use Rattle.arr_machine.specs.Kept.{AllKept, OpKept, kept_from}
-use Rattle.arr_machine.specs.Shown.{Showing, seen, show_number, shown_number}
+use Rattle.arr_machine.specs.Kept.{OpKept, kept_from}
+use Rattle.arr_machine.specs.Shown.{show_number, shown_number}
 use Rattle.arr_machine.specs.Standing.{Resting, Standing}
 use Rattle.arr_machine.proofs.Blocks.{all_front, all_get, ends_end}
-use Rattle.arr_machine.proofs.Steps.{seen_inside}
 
 module _ (ops : List Op) (m : Memory) (b : Block ops) (fs : AllByRecursion (λ f. op_fits m ops f ≡ true) ops) where
   all_alone : AllByRecursion (Alone (block_positions ops)) ops

@@ -1,15 +1,15 @@
 -- A scan at a strip.
-use Rattle.std.proofs.Common.{◌≡◌, ℕ, ◌+◌, ◌%◌, ◌<◌, ◌≤◌, ℤ, List, true, false, cond, ◌||◌, Option, Some, None, length, get_or, take, refl, ap, ap₂, sym, subst, ◌∙◌, arith}
+use Rattle.std.proofs.Common.{◌≡◌, ℕ, ◌+◌, ◌%◌, ◌<◌, ◌≤◌, ℤ, List, true, cond, ◌||◌, Option, Some, None, length, get_or, take, ap, ap₂, sym, subst, ◌∙◌, arith}
 use Rattle.std.specs.Prelude.{◌==◌, slice_get}
-use Rattle.std.proofs.lemmas.Bool.{false≢true, true≢false}
-use Rattle.arr_num.specs.Kinds.{Scan, folds, is_fold, is_reduction, kind, scans}
+use Rattle.std.proofs.lemmas.Bool.{true≢false}
+use Rattle.arr_num.specs.Kinds.{folds, is_fold, scans}
 use Rattle.arr_num.specs.Numbers.{fold_start, in_type, value}
 use Rattle.arr_view.specs.Strided.{Strided}
 use Rattle.arr_ops.specs.declared.op.Op.{Op}
 use Rattle.arr_ops.specs.Memory.{Slot}
 use Rattle.arr_ops.specs.Traffic.{axis_length, kept_for, scratch}
 use Rattle.arr_store.specs.declared.buffer.Buffer.{Buffer}
-use Rattle.arr_strips.specs.Columns.{Columns, column, column_of, ends, fills, scan_at, taken}
+use Rattle.arr_strips.specs.Columns.{column, column_of, ends, fills, scan_at, taken}
 use Rattle.arr_strips.specs.Registers.{number_in, register_views}
 use Rattle.arr_strips.proofs.Sorts.{sorts}
 use Rattle.arr_lanes.specs.Lanes.{Becomes, IsLane, number}
@@ -19,7 +19,7 @@ use Rattle.arr_sums.specs.Scanning.{ScansOn}
 use Rattle.arr_machine.specs.Kept.{inner_of, kept_from}
 use Rattle.arr_machine.specs.declared.task.Along.{Along}
 use Rattle.arr_machine.specs.declared.task.Task.TheVariants.{Scan as scan_task}
-use Rattle.arr_machine.specs.Standing.{Advances, IsReady, IsStripOf, Standing}
+use Rattle.arr_machine.specs.Standing.{Advances, IsReady, IsStripOf}
 use Rattle.arr_machine.specs.Tasks.{IsAlong, IsTask}
 use Rattle.arr_machine.proofs.Blocks.{kept_inside, register_below}
 use Rattle.arr_machine.proofs.Reductions.{FoldAsks, along_fits, code_folds, source_is, source_typed}

@@ -1,8 +1,7 @@
 -- A SYNC at a strip.
-use Rattle.std.proofs.Common.{◌≡◌, ◌≢◌, ℕ, zero, suc, ◌+◌, ◌-◌, ◌<◌, ◌≤◌, ℤ, pos, List, true, false, cond, Option, Some, None, length, get_or, map, take, refl, ap, ap₂, sym, subst, ◌∙◌, arith}
+use Rattle.std.proofs.Common.{◌≡◌, ℕ, zero, suc, ◌+◌, ◌-◌, ◌<◌, ◌≤◌, ℤ, pos, List, true, false, cond, Option, Some, None, length, get_or, take, refl, ap, sym, subst, ◌∙◌, arith}
 use Rattle.std.specs.Prelude.{◌==◌, is_none, is_some, nat_lt, slice_get}
-use Rattle.std.specs.List.{AllByRecursion, range_with_len}
-use Rattle.std.proofs.lemmas.Bool.{eqb-true, eqb-false, false≢true, true≢false, lt-ltb, ltb-false, ltb-true}
+use Rattle.std.proofs.lemmas.Bool.{eqb-true, true≢false, lt-ltb, ltb-false, ltb-true}
 use Rattle.std.proofs.lemmas.List.{get_or-take, length-take-le}
 use Rattle.std.proofs.lemmas.List.FromFn.{get_or-map-range_with_len, length-map-range_with_len}
 use Rattle.arr_num.specs.declared.elem.Elem.{Elem}
@@ -21,14 +20,14 @@ use Rattle.arr_store.specs.Cells.{assigned}
 use Rattle.arr_store.specs.Runs.{IsOfSlot, LiesIn, moved, run_place, run_places, with_slot_run}
 use Rattle.arr_store.specs.Slots.{slot_number, slot_size}
 use Rattle.arr_strips.specs.Blocks.{block_positions}
-use Rattle.arr_strips.specs.Columns.{Columns, ends, taken}
-use Rattle.arr_strips.specs.Registers.{number_in, register_views}
+use Rattle.arr_strips.specs.Columns.{ends, taken}
+use Rattle.arr_strips.specs.Registers.{register_views}
 use Rattle.arr_strips.proofs.Cells.{length-write, write-hit, write-miss}
 use Rattle.arr_strips.proofs.Sorts.{Showing as ShowingOp, sorts}
 use Rattle.arr_lanes.specs.Lanes.{IsLane, lane_number, number}
 use Rattle.arr_machine.specs.declared.task.Task.TheVariants.{Show}
 use Rattle.arr_machine.specs.Shown.{Matches, Showing, SlotsMatch, frame, seen, show_number, shown_number}
-use Rattle.arr_machine.specs.Standing.{Advances, IsStripOf, Standing}
+use Rattle.arr_machine.specs.Standing.{Advances, IsStripOf}
 use Rattle.arr_machine.specs.Tasks.{IsTask, TypedLanes}
 use Rattle.arr_machine.proofs.Blocks.{all_get}
 use Rattle.arr_machine.proofs.Operands.{shows_number, stands_typed}

@@ -1,8 +1,6 @@
 -- Tasks stay those of a block while lanes change.
-use Rattle.std.proofs.Common.{◌≡◌, ℕ, ◌≤◌, ◌<◌, List, Option, Some, None, length, get_or, refl, ap, sym, subst, ◌∙◌}
-use Rattle.std.specs.Prelude.{slice_get}
+use Rattle.std.proofs.Common.{ℕ, List, Option, Some, None, refl, ap, ◌∙◌}
 use Rattle.arr_num.specs.declared.elem.Elem.{Elem}
-use Rattle.arr_view.specs.Strided.{Strided}
 use Rattle.arr_ops.specs.declared.op.Op.{Op}
 use Rattle.arr_ops.specs.declared.op.Operand.{Operand}
 use Rattle.arr_ops.specs.declared.op.Operand.TheVariants.{Array, Number}
@@ -13,7 +11,7 @@ use Rattle.arr_lanes.specs.declared.line.Work.TheVariants.{Arithmetic, Compariso
 use Rattle.arr_lanes.specs.Lanes.{lane_number}
 use Rattle.arr_machine.specs.declared.task.Task.{Task}
 use Rattle.arr_machine.specs.declared.task.Task.TheVariants.{Line, Scan, Fold, Show, Nothing}
-use Rattle.arr_machine.specs.Tasks.{AreTasks, Holds, IsTask, Stands, Steady, TypedLanes, WorkOf}
+use Rattle.arr_machine.specs.Tasks.{AreTasks, IsTask, Stands, Steady, TypedLanes, WorkOf}
 
 pub steady_none : (ops : List Op) (room : ℕ) (lanes : List Buffer) → Steady ops room lanes lanes
 steady_none ops room lanes = record { long = refl; types = λ t r h. h; constants = λ r l. refl }

@@ -1,14 +1,13 @@
 -- A walk goes on, operation by operation: what each finds, and what it leaves to the others.
-use Rattle.std.proofs.Common.{◌≡◌, ◌≢◌, ℕ, zero, suc, ◌+◌, ◌-◌, ◌*◌, ◌%◌, ◌<◌, ◌≤◌, ℤ, pos, List, [], ◌∷◌, ◌++◌, Bool, true, false, cond, Option, Some, None, length, get_or, take, refl, ap, ap₂, sym, subst, ◌∙◌, arith}
-use Rattle.std.specs.Prelude.{◌==◌, nat_lt, slice_get}
+use Rattle.std.proofs.Common.{◌≡◌, ◌≢◌, ℕ, ◌+◌, ◌<◌, ◌≤◌, ℤ, List, [], ◌∷◌, ◌++◌, Bool, true, false, cond, Option, Some, None, length, get_or, take, refl, ap, ap₂, sym, subst, ◌∙◌, arith}
+use Rattle.std.specs.Prelude.{◌==◌, nat_lt}
 use Rattle.std.specs.List.{AllByRecursion}
 use Rattle.std.specs.Option.{option_to_list}
-use Rattle.std.proofs.lemmas.Bool.{eqb-true, eqb-false, false≢true, true≢false, le-ltb, lt-ltb, ltb-false, ltb-true}
-use Rattle.std.proofs.lemmas.List.{get_or_default, take_more}
-use Rattle.arr_num.specs.Kinds.{folds, is_fold, is_reduction, is_scan, kind, scans}
+use Rattle.std.proofs.lemmas.Bool.{eqb-true, eqb-false, true≢false, le-ltb, lt-ltb, ltb-false, ltb-true}
+use Rattle.std.proofs.lemmas.List.{take_more}
+use Rattle.arr_num.specs.Kinds.{is_fold, is_reduction, is_scan}
 use Rattle.arr_num.specs.Numbers.{in_type}
 use Rattle.arr_view.specs.Strided.{Strided}
-use Rattle.arr_view.specs.Views.{identical}
 use Rattle.arr_ops.specs.declared.op.Op.{Op}
 use Rattle.arr_ops.specs.Formed.{well_formed}
 use Rattle.arr_ops.specs.Memory.{Slot}
@@ -19,7 +18,7 @@ use Rattle.arr_ops.proofs.Spots.{all_left, all_right, all_two}
 use Rattle.arr_store.specs.declared.buffer.Buffer.{Buffer}
 use Rattle.arr_store.specs.Slots.{slot_number}
 use Rattle.arr_strips.specs.Blocks.{block_positions, block_shape}
-use Rattle.arr_strips.specs.Columns.{Columns, Row, assigned, column, ends, fills, next, taken}
+use Rattle.arr_strips.specs.Columns.{Columns, assigned, column, ends, fills, next, taken}
 use Rattle.arr_strips.specs.Registers.{number_in, register_views}
 use Rattle.arr_strips.specs.Strips.{loaded}
 use Rattle.arr_strips.proofs.Blocks.{Block, block_of}
@@ -28,11 +27,11 @@ use Rattle.arr_strips.proofs.Registers.{one_number}
 use Rattle.arr_strips.proofs.Sames.{or_true}
 use Rattle.arr_strips.proofs.Sorts.{AtShape, one_shape}
 use Rattle.arr_lanes.specs.Lanes.{number}
-use Rattle.arr_sums.specs.Kept.{AreOf, ChangesWithin, kept_at}
-use Rattle.arr_machine.specs.Kept.{AllKept, OpKept, TypedKept, inner_of, kept_from}
+use Rattle.arr_sums.specs.Kept.{ChangesWithin, kept_at}
+use Rattle.arr_machine.specs.Kept.{AllKept, OpKept, TypedKept, kept_from}
 use Rattle.arr_machine.specs.Shown.{Showing, seen, show_number, shown_number}
 use Rattle.arr_machine.specs.Standing.{IsStripOf, Standing}
-use Rattle.arr_machine.proofs.Blocks.{Lines, Rooms, all_get, carry_room, done_other, ends_more, kept_apart, lines_of_fold, op_kept_same, same_item, sums_room, taken_alike}
+use Rattle.arr_machine.proofs.Blocks.{Lines, Rooms, all_get, carry_room, done_other, ends_more, kept_apart, lines_of_fold, op_kept_same, same_item, sums_room}
 
 show_end : (xs : List Op) (op : Op) (h : Columns) (q s : ℕ) (c : ℤ) → show_number (xs ++ op ∷ []) h q s c ≡ shown_number op.slot (taken (ends xs h q) op.first) s (show_number xs h q s c)
 show_end [] op h q s c = refl

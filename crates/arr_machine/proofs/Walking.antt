@@ -1,5 +1,5 @@
 -- One strip more of a walk.
-use Rattle.std.proofs.Common.{◌≡◌, ℕ, zero, suc, ◌+◌, ◌-◌, ◌<◌, ◌≤◌, ℤ, List, [], ◌∷◌, true, cond, Option, length, get_or, take, refl, ap, sym, subst, ◌∙◌, arith}
+use Rattle.std.proofs.Common.{◌≡◌, ℕ, suc, ◌+◌, ◌-◌, ◌<◌, ◌≤◌, ℤ, List, [], ◌∷◌, true, Option, length, get_or, refl, ap, sym, subst, ◌∙◌, arith}
 use Rattle.std.specs.List.{AllByRecursion}
 use Rattle.std.proofs.lemmas.List.{take_all}
 use Rattle.arr_view.specs.Strided.{Strided}
@@ -10,16 +10,16 @@ use Rattle.arr_ops.specs.Memory.{Memory, Slot}
 use Rattle.arr_ops.proofs.Tests.{all_of}
 use Rattle.arr_store.specs.Cells.{number_at}
 use Rattle.arr_store.specs.declared.buffer.Buffer.{Buffer}
-use Rattle.arr_strips.specs.Blocks.{block_positions, is_block, stores}
+use Rattle.arr_strips.specs.Blocks.{block_positions, stores}
 use Rattle.arr_strips.specs.Columns.{Columns, ends, place_at}
 use Rattle.arr_strips.specs.Laws.{WalkedBlock}
 use Rattle.arr_strips.specs.Registers.{number_in, register_views}
 use Rattle.arr_strips.specs.Strips.{Bases, joined, loaded, stored}
-use Rattle.arr_strips.proofs.Blocks.{Block, block_of}
+use Rattle.arr_strips.proofs.Blocks.{block_of}
 use Rattle.arr_strips.proofs.StripLaws.{go_on}
 use Rattle.arr_lanes.specs.Lanes.{number}
 use Rattle.arr_machine.specs.Machines.{Walks}
-use Rattle.arr_machine.specs.Ports.{ArePorts, lane_columns}
+use Rattle.arr_machine.specs.Ports.{lane_columns}
 use Rattle.arr_machine.specs.Standing.{Advances, IsStripOf, Resting, Standing}
 use Rattle.arr_machine.proofs.Rests.{strip_begins, strip_ends}
 

@@ -1,5 +1,5 @@
 -- What a block keeps for its operations, from position to position.
-use Rattle.std.specs.Prelude.{ℕ, ℤ, pos, suc, ◌≡◌, ◌+◌, ◌%◌, ◌<◌, ◌≤◌, nat_lt, true, List, cond, get_or, drop, take, length}
+use Rattle.std.specs.Prelude.{ℕ, ℤ, suc, ◌≡◌, ◌+◌, ◌%◌, ◌<◌, ◌≤◌, nat_lt, true, List, cond, get_or, drop, take, length}
 use Rattle.arr_num.specs.Kinds.{is_reduction, is_scan}
 use Rattle.arr_num.specs.Numbers.{fold_start}
 use Rattle.arr_view.specs.Views.{positions}

@@ -1,6 +1,5 @@
 -- Views that a strip loads or stores.
-use Rattle.std.specs.Prelude.{ℕ, ℤ, ◌≡◌, ◌-◌, ◌<◌, List, true, get_or, length, Option}
-use Rattle.arr_num.specs.declared.elem.Elem.{Elem}
+use Rattle.std.specs.Prelude.{ℕ, ◌≡◌, ◌-◌, ◌<◌, List, true, get_or, length, Option}
 use Rattle.arr_view.specs.Strided.{Strided}
 use Rattle.arr_view.specs.Views.{elements, positions}
 use Rattle.arr_ops.specs.declared.op.Op.{Op}

@@ -1,4 +1,4 @@
-use Rattle.std.proofs.Common.{◌≡◌, ◌+◌, ◌<◌, ◌∙◌, ap, length, pos, to_z, of_z, arith}
+use Rattle.std.proofs.Common.{◌≡◌, ◌∙◌, ap, pos, to_z, of_z, arith}
 use Rattle.std.specs.Int.{w128}
 use Rattle.arr_num.specs.Numbers.{fold_start, in_type}
 use Rattle.arr_sums.proofs.Kept.{steps_begin, steps_more}

@@ -1,4 +1,4 @@
-use Rattle.std.proofs.Common.{◌≡◌, ◌∙◌, ◌≤◌, ap, refl, subst, sym}
+use Rattle.std.proofs.Common.{◌∙◌, ap, subst}
 use Rattle.arr_num.specs.Kinds.{folds, is_fold, kind}
 use Rattle.arr_machine.specs.Tasks.{IsTask}
 use Rattle.arr_machine.proofs.Begins.{one_strip, plain_kind, reduction_fold, starts_inside, starts_more, starts_other, starts_typed}

@@ -1,12 +1,11 @@
-use Rattle.std.proofs.Common.{◌≡◌, ◌+◌, ◌*◌, ◌≤◌, ap, sym, subst, ◌∙◌, arith}
+use Rattle.std.proofs.Common.{◌*◌, ◌≤◌, sym, subst, arith}
 use Rattle.std.specs.Prelude.{slice_get}
 use Rattle.arr_num.specs.Numbers.{value}
-use Rattle.arr_native.specs.Entries.{entry}
 use Rattle.arr_lanes.specs.Lanes.{IsLane, number}
 use Rattle.arr_sums.specs.Gathering.{FoldsOn}
 use Rattle.arr_sums.specs.Kept.{AreOf, ChangesWithin, kept_at}
 use Rattle.arr_machine.proofs.Blocks.{item_at}
-use Rattle.arr_machine.proofs.Reductions.{FoldAsks, fold_asks, fold_ready, fold_stands}
+use Rattle.arr_machine.proofs.Reductions.{fold_asks, fold_ready, fold_stands}
 use Rattle.arr_machine.proofs.folds.fold_typed.Goals as goal
 
 pub numbers_of-source-requires : goal.numbers_of-source-requires

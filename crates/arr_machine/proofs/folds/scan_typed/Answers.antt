@@ -1,6 +1,5 @@
-use Rattle.std.proofs.Common.{◌≡◌, ◌+◌, ◌≤◌, ◌<◌, ◌++◌, ℕ, pos, take, drop, length, ap, sym, subst, ◌∙◌, arith, true, to_z, of_z}
+use Rattle.std.proofs.Common.{◌≡◌, ◌≤◌, ◌++◌, take, drop, length, ap, sym, subst, ◌∙◌, arith}
 use Rattle.std.specs.Prelude.{slice_get}
-use Rattle.std.specs.Int.{w128}
 use Rattle.arr_num.specs.Numbers.{fold_start, in_type, value}
 use Rattle.arr_native.specs.Entries.{entry}
 use Rattle.arr_lanes.specs.Lanes.{Becomes, IsLane, number}

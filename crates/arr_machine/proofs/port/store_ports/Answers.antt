@@ -1,25 +1,18 @@
-use Rattle.std.proofs.Common.{◌≡◌, ◌+◌, ◌*◌, ◌<◌, ◌≤◌, ℕ, Some, length, get_or, set, take, ap, sym, subst, ◌∙◌, arith, refl}
+use Rattle.std.proofs.Common.{◌≡◌, ◌+◌, ◌*◌, ◌<◌, ◌≤◌, Some, length, take, ap, sym, subst, ◌∙◌, arith, refl}
 use Rattle.std.specs.Prelude.{slice_get}
-use Rattle.std.specs.FinMap as finite
-use Rattle.std.proofs.lemmas.List.{take_all}
 use Rattle.arr_view.specs.Strided.{Strided}
-use Rattle.arr_view.specs.Views.{elements, positions}
-use Rattle.arr_ops.specs.Costs.{elem_of, reads, total}
-use Rattle.arr_picks.specs.Picks.{AllBelow}
+use Rattle.arr_ops.specs.Costs.{total}
 use Rattle.arr_store.specs.Buffers.{cell_of}
-use Rattle.arr_store.specs.Cells.{size_at, width_at}
+use Rattle.arr_store.specs.Cells.{width_at}
 use Rattle.arr_store.specs.Runs.{IsOf}
 use Rattle.arr_store.specs.Stored.{cells}
 use Rattle.arr_strips.specs.Blocks.{block_positions, stores}
-use Rattle.arr_strips.specs.Strips.{outline}
 use Rattle.arr_machine.specs.Ports.{IsThere}
-use Rattle.arr_machine.specs.Tasks.{Steady, TypedLanes}
+use Rattle.arr_machine.specs.Tasks.{TypedLanes}
 use Rattle.arr_machine.proofs.Few.{few_block}
 use Rattle.arr_machine.proofs.Gates.{Gate, gate_at, lane_inside, lane_is_typed, lane_there}
-use Rattle.arr_machine.proofs.Loads.{LoadedTo, few_bytes, loaded_all, loaded_more, put_steady, widths_more}
-use Rattle.arr_machine.proofs.Saves.{StoredTo, stored_more, stored_none, there_alike, outline_width}
-use Rattle.arr_machine.proofs.Steadies.{steady_more, steady_none, typed_steady}
-use Rattle.arr_machine.proofs.Walking.{all_each}
+use Rattle.arr_machine.proofs.Loads.{few_bytes, widths_more}
+use Rattle.arr_machine.proofs.Saves.{stored_more, stored_none, there_alike, outline_width}
 use Rattle.arr_machine.proofs.port.store_ports.Goals as goal
 
 pub overflow_cast-strip : goal.overflow_cast-strip

@@ -1,4 +1,4 @@
-use Rattle.std.proofs.Common.{◌≡◌, ◌+◌, ◌≤◌, ℕ, arith}
+use Rattle.std.proofs.Common.{◌+◌, ◌≤◌, arith}
 use Rattle.arr_strips.specs.Blocks.{block_positions}
 use Rattle.arr_strips.specs.Registers.{line_value}
 use Rattle.arr_lanes.specs.Lanes.{registers, shown}

@@ -1,4 +1,3 @@
-use Rattle.std.proofs.Common.{ℕ}
 use Rattle.arr_store.specs.Slots.{slots_of}
 use Rattle.arr_lanes.specs.Spares.{HasRoom}
 use Rattle.arr_machine.specs.Shown.{SlotsMatch}

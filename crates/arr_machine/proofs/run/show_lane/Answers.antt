@@ -1,4 +1,4 @@
-use Rattle.std.proofs.Common.{◌≡◌, ◌+◌, ◌≤◌, ℕ, Some, length, ap, sym, subst, ◌∙◌, arith}
+use Rattle.std.proofs.Common.{◌≡◌, ◌+◌, ◌≤◌, Some, length, sym, subst, arith}
 use Rattle.std.specs.Prelude.{slice_get}
 use Rattle.arr_store.specs.Buffers.{cell_of}
 use Rattle.arr_store.specs.Runs.{IsOfSlot}

@@ -1,29 +1,17 @@
-use Rattle.std.proofs.Common.{◌≡◌, ◌+◌, ◌-◌, ◌*◌, ◌<◌, ◌≤◌, ℕ, List, Option, length, ap, sym, subst, ◌∙◌, arith, true}
+use Rattle.std.proofs.Common.{◌≡◌, ◌-◌, ◌≤◌, sym, subst, ◌∙◌, arith}
 use Rattle.std.proofs.Math.Nat.{min-le_right}
-use Rattle.std.specs.FinMap as finite
-use Rattle.std.specs.List.{AllByRecursion}
 use Rattle.arr_view.specs.Strided.{Strided}
 use Rattle.arr_ops.specs.Costs.{reads, total}
 use Rattle.arr_ops.proofs.Pairs.{All_weaker}
 use Rattle.arr_store.specs.Cells.{width_at}
 use Rattle.arr_store.specs.Slots.{slots_of}
 use Rattle.arr_store.specs.Stored.{cells}
-use Rattle.arr_store.specs.declared.buffer.Buffer.{Buffer}
 use Rattle.arr_strips.specs.Blocks.{block_positions, stores}
-use Rattle.arr_strips.specs.Registers.{register_views}
-use Rattle.arr_strips.specs.Strips.{Bases, loaded, outline, stored}
-use Rattle.arr_lanes.specs.Spares.{HasRoom}
 use Rattle.arr_machine.specs.Machines.{Walks}
-use Rattle.arr_machine.specs.Ports.{IsThere, lane_columns}
-use Rattle.arr_machine.specs.Standing.{Advances, IsReady}
-use Rattle.arr_machine.specs.Tasks.{AreTasks, Steady, TypedLanes}
+use Rattle.arr_machine.specs.Ports.{IsThere}
 use Rattle.arr_machine.proofs.Few.{few_block}
-use Rattle.arr_machine.proofs.Gates.{registered}
-use Rattle.arr_machine.proofs.Lines.{written_back}
 use Rattle.arr_machine.proofs.Loads.{all_bytes}
-use Rattle.arr_machine.proofs.Saves.{moved_on, outline_stored, there_alike, widths_alike}
-use Rattle.arr_machine.proofs.Steadies.{steady_more, tasks_steady, typed_steady}
-use Rattle.arr_machine.proofs.Walking.{all_each, strip_walks}
+use Rattle.arr_machine.proofs.Saves.{moved_on, there_alike, widths_alike}
 use Rattle.arr_machine.proofs.walk.Machine.walk.Goals as goal
 
 pub run_strip-requires-clause-reads : goal.run_strip-requires-clause-reads
