@@ -4,10 +4,12 @@ use Rattle.std.specs.List.{enumerate_from, filter, flat_map}
 use Rattle.std.specs.Option.{option_to_list}
 use Rattle.arr_view.specs.Strided.{Strided}
 use Rattle.arr_ops.specs.declared.op.Op.{Op}
-use Rattle.arr_ops.specs.Ops.{array_of, inputs, outputs, view_of, views}
-use Rattle.arr_ops.specs.Costs.{distinct, total}
+use Rattle.arr_ops.specs.Ops.{array_of, creates, freed_by, inputs, outputs, view_of, views}
+use Rattle.arr_ops.specs.Costs.{distinct, reads, total}
 use Rattle.arr_ops.specs.Plans.{numbered, ops_of}
-use Rattle.arr_view.specs.Views.{has}
+use Rattle.arr_view.specs.Views.{has, identical}
+use Rattle.arr_strips.specs.Blocks.{stores}
+use Rattle.arr_strips.specs.Columns.{filled, fills}
 
 few_filtered : {X : Type 0} (p : X → Bool) (xs : List X) → length (filter p xs) ≤ length xs
 few_filtered p [] = omega arith
@@ -82,4 +84,34 @@ pub few_ops : (list : List Op) (block : List ℕ) → length (ops_of (numbered l
 few_ops list block =
     let a : length (ops_of (numbered list) block) ≤ length (numbered list) = few_of (numbered list) block in
     let b : length (numbered list) ≡ length list = long_numbered 1 list in
+    omega arith
+
+few_both : {X : Type 0} (f : Op → List X) (n : ℕ) → ((op : Op) → length (f op) ≤ n) → (ops : List Op) → length (flat_map f ops) ≤ n * length ops
+few_both f n few [] = omega arith
+few_both f n few (op ∷ ops) =
+    let a : length (f op) ≤ n = few op in
+    let b : length (flat_map f ops) ≤ n * length ops = few_both f n few ops in
+    let c : length (flat_map f (op ∷ ops)) ≡ length (f op) + length (flat_map f ops) = length-append (f op) (flat_map f ops) in
+    let d : n * suc (length ops) ≡ n + n * length ops = omega arith in
+    omega arith
+
+pub few_reads : (ops : List Op) → length (reads ops) ≤ 3 * length ops
+few_reads ops =
+    let a : length (reads ops) ≤ length (flat_map (λ (op : Op). filter (λ (v : Strided). not (creates ops v.base)) (inputs op)) ops) = few_distinct identical (flat_map (λ (op : Op). filter (λ (v : Strided). not (creates ops v.base)) (inputs op)) ops) in
+    let b : length (flat_map (λ (op : Op). filter (λ (v : Strided). not (creates ops v.base)) (inputs op)) ops) ≤ 3 * length ops =
+    few_both (λ (op : Op). filter (λ (v : Strided). not (creates ops v.base)) (inputs op)) 3 (λ op. let f = few_filtered (λ (v : Strided). not (creates ops v.base)) (inputs op) in let g = few_inputs op in omega (arith, f, g)) ops in
+    omega arith
+  where
+    few_inputs : (op : Op) → length (inputs op) ≤ 3
+    few_inputs op =
+        let first : length (view_of op.first) ≤ 1 = one_at_most (array_of op.first) in
+        let second : length (view_of op.second) ≤ 1 = one_at_most (array_of op.second) in
+        let b : length (inputs op) ≡ length (view_of op.first) + length (view_of op.second) = length-append (view_of op.first) (view_of op.second) in
+        omega arith
+
+pub few_stores : (ops : List Op) → length (stores ops) ≤ 3 * length ops
+few_stores ops =
+    let a : length (stores ops) ≤ length (flat_map (λ (op : Op). filter (λ (v : Strided). not (freed_by ops v.base)) (filled op)) ops) = few_distinct identical (flat_map (λ (op : Op). filter (λ (v : Strided). not (freed_by ops v.base)) (filled op)) ops) in
+    let b : length (flat_map (λ (op : Op). filter (λ (v : Strided). not (freed_by ops v.base)) (filled op)) ops) ≤ 3 * length ops =
+    few_both (λ (op : Op). filter (λ (v : Strided). not (freed_by ops v.base)) (filled op)) 3 (λ op. let f = few_filtered (λ (v : Strided). not (freed_by ops v.base)) (filled op) in let g = one_at_most (fills op) in omega (arith, f, g)) ops in
     omega arith

@@ -1,7 +1,18 @@
 //! A block that is ready to run.
-ghost use Rattle.std.specs.Prelude.{◌≡◌, ◌<◌, ◌≤◌, IfOk, IsTrue, get_or, length, pos, set};
-ghost use Rattle.std.specs.List.{list_any};
-ghost use Rattle.arr_ops.specs.Costs.{reads, writes};
+ghost use Rattle.std.specs.Prelude.{ℕ, ◌≡◌, ◌+◌, ◌*◌, ◌<◌, ◌≤◌, ◌^◌, IfOk, IsTrue, Option, false, get_or, length, pos, set, true};
+ghost use Rattle.std.specs.List.{AllByRecursion, list_any};
+ghost use Rattle.arr_ops.specs.Costs.{reads, total, writes};
+ghost use Rattle.arr_ops.specs.Fits.{fits};
+ghost use Rattle.arr_ops.specs.Memory.{Memory, Slot};
+ghost use Rattle.arr_store.specs.Cells.{width_at};
+ghost use Rattle.arr_store.specs.Slots.{slots_of};
+ghost use Rattle.arr_store.specs.Stored.{cells};
+ghost use Rattle.arr_strips.specs.Blocks.{block_positions, stores};
+ghost use Rattle.arr_strips.specs.Strips.{outline};
+ghost use Rattle.arr_machine.specs.Kept.{StartsFolds, TypedKept};
+ghost use Rattle.arr_machine.specs.Machines.{Walks};
+ghost use Rattle.arr_machine.specs.Ports.{IsThere};
+ghost use Rattle.arr_machine.specs.Shown.{SlotsMatch};
 ghost use Rattle.arr_ops.specs.Formed.{is_formed};
 ghost use Rattle.arr_ops.specs.Ops.{serial};
 ghost use Rattle.arr_ops.specs.Plans.{numbered, ops_of};
@@ -10,10 +21,13 @@ ghost use Rattle.arr_contract.specs.Prepared.{IsBlockOf, may_share_block};
 
 use crate::NoMemory;
 use crate::contracted::contracted;
+use crate::making::machine_for;
 use crate::scratch::{scratch, some_serial};
-use arr_cost::{block_ops, block_reads, block_writes};
+use arr_cost::{block_ops, block_reads, block_views, block_writes};
+use arr_machine::{Machine, begin_folds};
 use arr_ops::Op;
 use arr_sets::MOST;
+use arr_store::{Slots, Store};
 use arr_view::View;
 use std::alloc::Global;
 use std::marker::Model;
@@ -28,21 +42,23 @@ pub struct Prepared {
     contracted_bases: Vec<u32>,
     is_serial: bool,
     numbers: Vec<i128>,
+    machine: Machine,
 }
 
 impl Model for Prepared {
-    ghost use Rattle.std.specs.Prelude.{◌≡◌, ◌≤◌, IsTrue, length};
+    ghost use Rattle.std.specs.Prelude.{◌≡◌, ◌≤◌, IsTrue, false, length};
     ghost use Rattle.std.specs.List.{list_any};
     ghost use Rattle.arr_ops.specs.Costs.{reads, writes};
     ghost use Rattle.arr_ops.specs.Ops.{serial};
     ghost use Rattle.arr_ops.specs.Traffic.{contracted, scratch};
+    ghost use Rattle.arr_machine.specs.Machines.{IsMachineOf};
     ghost use Rattle.arr_contract.specs.Prepared.{PreparedBlock, may_share_block};
 
     ghost Value = { PreparedBlock };
 
     ghost view = { λ p. record { ops = p.ops.items; numbers = p.numbers.items } };
 
-    ghost invariant = { λ p. (IsTrue (may_share_block p.ops.items)) × (length p.ops.items ≤ 256) × (p.read_views.items ≡ reads p.ops.items) × (p.written_views.items ≡ writes p.ops.items) × (p.contracted_bases.items ≡ contracted p.ops.items) × (p.is_serial ≡ list_any serial p.ops.items) × (length p.numbers.items ≡ scratch p.ops.items) };
+    ghost invariant = { λ p. (IsTrue (may_share_block p.ops.items)) × (length p.ops.items ≤ 256) × (p.read_views.items ≡ reads p.ops.items) × (p.written_views.items ≡ writes p.ops.items) × (p.contracted_bases.items ≡ contracted p.ops.items) × (p.is_serial ≡ list_any serial p.ops.items) × (length p.numbers.items ≡ scratch p.ops.items) × (p.is_serial ≡ false → IsMachineOf p.ops.items p.machine) };
 }
 
 impl Prepared {
@@ -61,6 +77,8 @@ impl Prepared {
         let is_serial = some_serial(alloc, ops.as_slice())?;
         let count = scratch(alloc, ops.as_slice())?;
         let numbers = vec![in alloc; 0; count]?;
+        let views = block_views(alloc, ops.as_slice())?;
+        let machine = machine_for(alloc, ops.as_slice(), views.as_slice(), is_serial)?;
         Ok(Prepared {
             ops,
             read_views,
@@ -68,6 +86,7 @@ impl Prepared {
             contracted_bases,
             is_serial,
             numbers,
+            machine,
         })
     }
 
@@ -136,5 +155,52 @@ impl Prepared {
         ensures { self.new ≡ record self.old { numbers = set self.old.numbers at value } }
     {
         self.numbers[at as usize] = value;
+    }
+
+    /// Sets the numbers that the block keeps to where its folds begin (docs/PLANS.md, "Running a block"). It takes no memory.
+    pub fn begin(&mut self)
+        requires { list_any serial self.old.ops ≡ false }
+        ensures ops { self.new.ops ≡ self.old.ops }
+        ensures long { length self.new.numbers ≡ length self.old.numbers }
+        ensures kept { TypedKept self.old.ops self.new.numbers }
+        ensures starts { StartsFolds self.old.ops self.new.numbers }
+    {
+        begin_folds(
+            self.ops.as_slice(),
+            self.machine.lanes.as_slice(),
+            self.machine.tasks.as_slice(),
+            self.numbers.as_mut_slice(),
+            self.machine.room,
+        );
+    }
+
+    /// Walks the positions of the block in strips, from bases that are open: each strip loads the views that the block reads, runs its
+    /// operations, and stores the views that a walk writes (docs/PLANS.md, "Running a block"). It takes no memory.
+    pub fn walk(&mut self, store: &mut Store, slots: &mut Slots)
+        requires parallel { list_any serial self.old.ops ≡ false }
+        requires reads { AllByRecursion (IsThere self.old.ops (cells store.old)) (reads self.old.ops) }
+        requires stores { AllByRecursion (IsThere self.old.ops (cells store.old)) (stores self.old.ops) }
+        requires kept { TypedKept self.old.ops self.old.numbers }
+        requires slots { SlotsMatch self.old.ops (slots_of slots.old) }
+        requires loads { store.old.loads < 2 ^ 61 }
+        requires saves { store.old.stores < 2 ^ 61 }
+        ensures walks { (m : Memory) (start : ℕ → Option Slot) → fits m self.old.ops ≡ true
+            → Walks self.old.ops m start 0 (cells store.old) self.old.numbers (slots_of slots.old)
+            → Walks self.old.ops m start (block_positions self.old.ops) (cells store.new) self.new.numbers (slots_of slots.new) }
+        ensures same { (b : ℕ) → outline (cells store.new b) ≡ outline (cells store.old b) }
+        ensures ops { self.new.ops ≡ self.old.ops }
+        ensures long { length self.new.numbers ≡ length self.old.numbers }
+        ensures kept { TypedKept self.old.ops self.new.numbers }
+        ensures slots { SlotsMatch self.old.ops (slots_of slots.new) }
+        ensures made { store.new.made ≡ store.old.made }
+        ensures loads { store.new.loads ≡ store.old.loads + block_positions self.old.ops * total (λ v. width_at (cells store.old v.base)) (reads self.old.ops) }
+        ensures saves { store.new.stores ≡ store.old.stores + block_positions self.old.ops * total (λ v. width_at (cells store.old v.base)) (stores self.old.ops) }
+    {
+        self.machine.walk(
+            self.ops.as_slice(),
+            self.numbers.as_mut_slice(),
+            store,
+            slots,
+        );
     }
 }

@@ -135,7 +135,7 @@ fn kept_sums(op: &Op) -> u64
 }
 
 /// The numbers that an operation needs beside one for each view.
-fn kept_for(alloc: Global, op: &Op) -> Result<u64, NoMemory>
+pub(crate) fn kept_for(alloc: Global, op: &Op) -> Result<u64, NoMemory>
     ensures value { IfOk result (λ kept. kept ≡ kept_for op.now) }
     ensures few { IfOk result (λ kept. kept ≤ 2097152) }
 {

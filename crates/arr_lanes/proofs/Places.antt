@@ -1,12 +1,12 @@
 -- Lanes, one at a time.
-use Rattle.std.proofs.Common.{◌≡◌, ◌≢◌, ℕ, suc, zero, ◌<◌, ℤ, List, [], ◌∷◌, true, false, refl, ap, sym, ◌∙◌, subst, arith, length, get_or, map, slice_get, slice_set, Some}
+use Rattle.std.proofs.Common.{◌≡◌, ◌≢◌, ℕ, suc, zero, ◌<◌, ℤ, List, [], ◌∷◌, true, false, cond, refl, ap, sym, ◌∙◌, subst, arith, length, get_or, map, slice_get, slice_set, Some}
 use Rattle.std.proofs.lemmas.Bool.{eqb-true, eqb-false}
 use Rattle.std.proofs.lemmas.Option.{slice_get-get_or}
 use Rattle.std.specs.Prelude.{◌==◌}
 use Rattle.std.specs.List.{AllByRecursion}
 use Rattle.arr_num.specs.declared.elem.Elem.{Elem}
 use Rattle.arr_store.specs.declared.buffer.Buffer.{Buffer}
-use Rattle.arr_lanes.specs.Lanes.{IsLane, Becomes}
+use Rattle.arr_lanes.specs.Lanes.{Becomes, IsLane, lane_number, number}
 
 pub same_numbers : (xs : List ℤ) → map (λ z. z) xs ≡ xs
 same_numbers [] = refl
@@ -33,20 +33,30 @@ set_elsewhere (k ∷ lanes) (suc dest) l zero ne = refl
 set_elsewhere (k ∷ lanes) (suc dest) l (suc r) ne = set_elsewhere lanes dest l r (λ e. ne (ap suc e))
 
 -- what a lane holds may be said in other words
-pub becomes_same : (t u : Elem) (count dest : ℕ) (wanted other : ℕ → ℤ) (old new : List Buffer) → t ≡ u → ((i : ℕ) → i < count → wanted i ≡ other i) → Becomes t count dest wanted old new → Becomes u count dest other old new
-becomes_same t u count dest wanted other old new e same b =
-    record { long = b.long; numbers = λ i l. b.numbers i l ∙ same i l; there = subst (λ k. IsLane k count (slice_get new dest)) e b.there; others = b.others }
+pub becomes_same : (t u : Elem) (room count dest : ℕ) (wanted other : ℕ → ℤ) (old new : List Buffer) → t ≡ u → ((i : ℕ) → i < count → wanted i ≡ other i) → Becomes t room count dest wanted old new
+    → Becomes u room count dest other old new
+becomes_same t u room count dest wanted other old new e same b =
+    record { long = b.long; numbers = λ i l. b.numbers i l ∙ same i l; there = subst (λ k. IsLane k room (slice_get new dest)) e b.there; others = b.others }
 
 -- lanes keep their types
-pub lane_stays : (t u : Elem) (count dest r : ℕ) (wanted : ℕ → ℤ) (old new : List Buffer) → IsLane t count (slice_get old dest) → Becomes t count dest wanted old new
-    → IsLane u count (slice_get old r) → IsLane u count (slice_get new r)
-lane_stays t u count dest r wanted old new was b h =
-    elim (dest == r) as (λ z. (dest == r) ≡ z → IsLane u count (slice_get new r)) [
+pub lane_stays : (t u : Elem) (room count dest r : ℕ) (wanted : ℕ → ℤ) (old new : List Buffer) → IsLane t room (slice_get old dest) → Becomes t room count dest wanted old new
+    → IsLane u room (slice_get old r) → IsLane u room (slice_get new r)
+lane_stays t u room count dest r wanted old new was b h =
+    elim (dest == r) as (λ z. (dest == r) ≡ z → IsLane u room (slice_get new r)) [
       | true ↦ λ e. let same : dest ≡ r = eqb-true dest r e in
-          subst (λ q. IsLane u count (slice_get new q)) same (subst (λ k. IsLane k count (slice_get new dest)) (one_type (slice_get old dest) was (subst (λ q. IsLane u count (slice_get old q)) (sym same) h)) b.there)
-      | false ↦ λ e. subst (IsLane u count) (sym (b.others r (eqb-false dest r e))) h
+          subst (λ q. IsLane u room (slice_get new q)) same (subst (λ k. IsLane k room (slice_get new dest)) (one_type (slice_get old dest) was (subst (λ q. IsLane u room (slice_get old q)) (sym same) h)) b.there)
+      | false ↦ λ e. subst (IsLane u room) (sym (b.others r (eqb-false dest r e))) h
     ] refl
   where
-    one_type : (o : Rattle.std.specs.Prelude.Option Buffer) → IsLane t count o → IsLane u count o → t ≡ u
+    one_type : (o : Rattle.std.specs.Prelude.Option Buffer) → IsLane t room o → IsLane u room o → t ≡ u
     one_type (Some l) x y = sym x.0 ∙ y.0
     one_type Rattle.std.specs.Prelude.None x y = absurd x
+
+-- every register after a line
+pub becomes_number : (t : Elem) (room count dest : ℕ) (wanted : ℕ → ℤ) (old new : List Buffer) → Becomes t room count dest wanted old new → (r i : ℕ) → i < count
+    → number new r i ≡ cond (dest == r) (wanted i) (number old r i)
+becomes_number t room count dest wanted old new b r i l =
+    elim (dest == r) as (λ z. (dest == r) ≡ z → number new r i ≡ cond z (wanted i) (number old r i)) [
+      | true ↦ λ e. ap (λ q. number new q i) (sym (eqb-true dest r e)) ∙ b.numbers i l
+      | false ↦ λ e. ap (λ o. lane_number o i) (b.others r (eqb-false dest r e))
+    ] refl

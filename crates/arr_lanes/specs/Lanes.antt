@@ -24,11 +24,11 @@ abbrev pub IsLane : Elem → ℕ → Option Buffer → Type 0
 IsLane t n None = ⊥
 IsLane t n (Some l) = ((cell_of l).elem ≡ t) × (n ≤ length (cell_of l).numbers)
 
--- the lane `dest` got other numbers; every other is as it was
-pub record Becomes (t : Elem) (count dest : ℕ) (wanted : ℕ → ℤ) (old new : List Buffer) : Type 0 where
+-- the lane `dest`, with room for so many numbers, got other numbers; every other lane is as it was
+pub record Becomes (t : Elem) (room count dest : ℕ) (wanted : ℕ → ℤ) (old new : List Buffer) : Type 0 where
   pub long : length new ≡ length old
   pub numbers : (i : ℕ) → i < count → number new dest i ≡ wanted i
-  pub there : IsLane t count (slice_get new dest)
+  pub there : IsLane t room (slice_get new dest)
   pub others : (r : ℕ) → dest ≢ r → slice_get new r ≡ slice_get old r
 
 -- the registers at place i of a strip

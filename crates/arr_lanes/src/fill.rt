@@ -6,15 +6,16 @@ ghost use Rattle.arr_vector.specs.Sorts.{is_arithmetic, is_comparison};
 ghost use Rattle.arr_lanes.specs.Lanes.{IsLane, number};
 
 use crate::lane::Lane;
+use crate::strip::Strip;
 use arr_num::{Code, Elem};
 use arr_store::Buffer;
 use arr_vector::{compare, compute, convert, count_up, raise};
 
-/// The numbers of a lane.
+/// The numbers of a lane with room for so many.
 #[inline(always)]
-fn numbers_of<T: Lane>(lanes: &[Buffer], lane: u32, _count: usize) -> &[T]
-    requires { IsLane T.elem _count (slice_get lanes.now lane) }
-    ensures long { _count ≤ length result.now }
+pub fn numbers_of<T: Lane>(lanes: &[Buffer], lane: u32, _room: usize) -> &[T]
+    requires { IsLane T.elem _room (slice_get lanes.now lane) }
+    ensures long { _room ≤ length result.now }
     ensures each { (i : ℕ) → entry T.number result.now i ≡ number lanes.now lane i }
 {
     T::numbers(&lanes[lane as usize])
@@ -27,18 +28,19 @@ pub(crate) fn fill_arithmetic<T: Lane>(
     code: Code,
     first: u32,
     second: u32,
-    count: usize,
+    strip: Strip,
 )
-    requires out { count ≤ length out.old.items }
+    requires out { strip.count ≤ length out.old.items }
+    requires within { strip.count ≤ strip.room }
     requires code { IsTrue (is_arithmetic code) }
-    requires first { IsLane T.elem count (slice_get lanes.now first) }
-    requires second { IsLane T.elem count (slice_get lanes.now second) }
+    requires first { IsLane T.elem strip.room (slice_get lanes.now first) }
+    requires second { IsLane T.elem strip.room (slice_get lanes.now second) }
     ensures length { length out.new.items ≡ length out.old.items }
-    ensures each { (i : ℕ) → i < count → entry T.number out.new.items i ≡ value code T.elem (number lanes.now first i) (number lanes.now second i) }
+    ensures each { (i : ℕ) → i < strip.count → entry T.number out.new.items i ≡ value code T.elem (number lanes.now first i) (number lanes.now second i) }
 {
-    let a = numbers_of(lanes, first, count);
-    let b = numbers_of(lanes, second, count);
-    compute(code, out.as_mut_slice(), a, b, count);
+    let a = numbers_of(lanes, first, strip.room);
+    let b = numbers_of(lanes, second, strip.room);
+    compute(code, out.as_mut_slice(), a, b, strip.count);
 }
 
 /// The first `count` values of a comparison, from two lanes of one type.
@@ -48,18 +50,19 @@ pub(crate) fn fill_comparison<T: Lane>(
     code: Code,
     first: u32,
     second: u32,
-    count: usize,
+    strip: Strip,
 )
-    requires out { count ≤ length out.old.items }
+    requires out { strip.count ≤ length out.old.items }
+    requires within { strip.count ≤ strip.room }
     requires code { IsTrue (is_comparison code) }
-    requires first { IsLane T.elem count (slice_get lanes.now first) }
-    requires second { IsLane T.elem count (slice_get lanes.now second) }
+    requires first { IsLane T.elem strip.room (slice_get lanes.now first) }
+    requires second { IsLane T.elem strip.room (slice_get lanes.now second) }
     ensures length { length out.new.items ≡ length out.old.items }
-    ensures each { (i : ℕ) → i < count → entry pos out.new.items i ≡ value code Elem.U8 (number lanes.now first i) (number lanes.now second i) }
+    ensures each { (i : ℕ) → i < strip.count → entry pos out.new.items i ≡ value code Elem.U8 (number lanes.now first i) (number lanes.now second i) }
 {
-    let a: &[T] = numbers_of(lanes, first, count);
-    let b: &[T] = numbers_of(lanes, second, count);
-    compare(code, out.as_mut_slice(), a, b, count);
+    let a: &[T] = numbers_of(lanes, first, strip.room);
+    let b: &[T] = numbers_of(lanes, second, strip.room);
+    compare(code, out.as_mut_slice(), a, b, strip.count);
 }
 
 /// The first `count` numbers of a lane, each raised to one exponent.
@@ -68,18 +71,19 @@ pub(crate) fn fill_power<T: Lane>(
     lanes: &[Buffer],
     first: u32,
     exponent: u64,
-    count: usize,
+    strip: Strip,
 )
-    requires out { count ≤ length out.old.items }
-    requires first { IsLane T.elem count (slice_get lanes.now first) }
+    requires out { strip.count ≤ length out.old.items }
+    requires within { strip.count ≤ strip.room }
+    requires first { IsLane T.elem strip.room (slice_get lanes.now first) }
     ensures length { length out.new.items ≡ length out.old.items }
-    ensures each { (i : ℕ) → i < count → entry T.number out.new.items i ≡ value Code.Power T.elem (number lanes.now first i) (pos exponent) }
+    ensures each { (i : ℕ) → i < strip.count → entry T.number out.new.items i ≡ value Code.Power T.elem (number lanes.now first i) (pos exponent) }
 {
     raise(
         out.as_mut_slice(),
-        numbers_of(lanes, first, count),
+        numbers_of(lanes, first, strip.room),
         exponent,
-        count,
+        strip.count,
     );
 }
 
@@ -88,23 +92,24 @@ pub(crate) fn fill_conversion<T: Lane, U: Lane>(
     out: &mut Vec<U>,
     lanes: &[Buffer],
     first: u32,
-    count: usize,
+    strip: Strip,
 )
-    requires out { count ≤ length out.old.items }
-    requires first { IsLane T.elem count (slice_get lanes.now first) }
+    requires out { strip.count ≤ length out.old.items }
+    requires within { strip.count ≤ strip.room }
+    requires first { IsLane T.elem strip.room (slice_get lanes.now first) }
     ensures length { length out.new.items ≡ length out.old.items }
-    ensures each { (i : ℕ) → i < count → entry U.number out.new.items i ≡ value Code.Identity U.elem (number lanes.now first i) (pos 0) }
+    ensures each { (i : ℕ) → i < strip.count → entry U.number out.new.items i ≡ value Code.Identity U.elem (number lanes.now first i) (pos 0) }
 {
-    let a: &[T] = numbers_of(lanes, first, count);
-    convert(out.as_mut_slice(), a, count);
+    let a: &[T] = numbers_of(lanes, first, strip.room);
+    convert(out.as_mut_slice(), a, strip.count);
 }
 
 /// The first `count` positions from one on.
-pub(crate) fn fill_positions<T: Lane>(out: &mut Vec<T>, position: u64, count: usize)
-    requires out { count ≤ length out.old.items }
-    requires few { position + count ≤ 1048576 }
+pub(crate) fn fill_positions<T: Lane>(out: &mut Vec<T>, strip: Strip)
+    requires out { strip.count ≤ length out.old.items }
+    requires few { strip.position + strip.count ≤ 1048576 }
     ensures length { length out.new.items ≡ length out.old.items }
-    ensures each { (i : ℕ) → i < count → entry T.number out.new.items i ≡ value Code.Range T.elem (pos (position + i)) (pos 0) }
+    ensures each { (i : ℕ) → i < strip.count → entry T.number out.new.items i ≡ value Code.Range T.elem (pos (strip.position + i)) (pos 0) }
 {
-    count_up(out.as_mut_slice(), position, count);
+    count_up(out.as_mut_slice(), strip.position, strip.count);
 }

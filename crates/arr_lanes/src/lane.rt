@@ -1,4 +1,5 @@
-ghost use Rattle.std.specs.Prelude.{◌≡◌, map};
+ghost use Rattle.std.specs.Prelude.{◌≡◌, map, true};
+ghost use Rattle.arr_num.specs.Numbers.{in_type};
 ghost use Rattle.arr_store.specs.Buffers.{cell_of};
 
 use arr_native::Native;
@@ -17,6 +18,16 @@ pub trait Lane: Native {
         ensures elem { (cell_of lane.new).elem ≡ Self.elem }
         ensures lane { (cell_of lane.new).numbers ≡ map Self.number list.old.items }
         ensures list { map Self.number list.new.items ≡ (cell_of lane.old).numbers };
+
+    /// A number of the type, in the bytes of the type.
+    fn narrow(number: i128) -> Self
+        requires { in_type Self.elem number ≡ true }
+        ensures { Self.number result ≡ number };
+
+    /// The number that it is.
+    fn widen(self) -> i128
+        ensures number { result ≡ Self.number self }
+        ensures typed { in_type Self.elem result ≡ true };
 }
 
 impl Lane for u8 {
@@ -34,6 +45,16 @@ impl Lane for u8 {
             Buffer::Bytes(numbers) => std::mem::swap(numbers, list),
             _ => unreachable!(),
         }
+    }
+
+    #[inline(always)]
+    fn narrow(number: i128) -> u8 {
+        number as u8
+    }
+
+    #[inline(always)]
+    fn widen(self) -> i128 {
+        self as i128
     }
 }
 
@@ -53,6 +74,16 @@ impl Lane for i32 {
             _ => unreachable!(),
         }
     }
+
+    #[inline(always)]
+    fn narrow(number: i128) -> i32 {
+        number as i32
+    }
+
+    #[inline(always)]
+    fn widen(self) -> i128 {
+        self as i128
+    }
 }
 
 impl Lane for i64 {
@@ -71,6 +102,16 @@ impl Lane for i64 {
             _ => unreachable!(),
         }
     }
+
+    #[inline(always)]
+    fn narrow(number: i128) -> i64 {
+        number as i64
+    }
+
+    #[inline(always)]
+    fn widen(self) -> i128 {
+        self as i128
+    }
 }
 
 impl Lane for u64 {
@@ -88,5 +129,15 @@ impl Lane for u64 {
             Buffer::Naturals(numbers) => std::mem::swap(numbers, list),
             _ => unreachable!(),
         }
+    }
+
+    #[inline(always)]
+    fn narrow(number: i128) -> u64 {
+        number as u64
+    }
+
+    #[inline(always)]
+    fn widen(self) -> i128 {
+        self as i128
     }
 }

@@ -5,7 +5,7 @@
 //! type, which then changes places with the lane that it is for; so a line may read the lane that it writes.
 //!
 //! The promise: after a line its lane holds the value of its opcode, as `arr_num` defines it, at each position, and every other
-//! lane is as it was; `run_lines` leaves what running the lines position by position leaves. No call but `Spares::new` takes memory.
+//! lane is as it was. No call but `Spares::new` takes memory.
 //!
 //! The definitions: `specs/Lanes.antt` has the number at a place of a lane, what a line computes (`work_value`), and the line of
 //! `arr_strips` that it stands for (`shown`); `ran` of `arr_strips` runs lines at one position.
@@ -15,7 +15,10 @@ mod fill;
 mod lane;
 mod line;
 mod spares;
+mod strip;
 
+pub use fill::numbers_of;
 pub use lane::Lane;
-pub use line::{Line, Work, run_lines};
+pub use line::{Line, Work, put, run_line};
 pub use spares::Spares;
+pub use strip::Strip;

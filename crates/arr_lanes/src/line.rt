@@ -1,5 +1,4 @@
 ghost use Rattle.std.specs.Prelude.{ℕ, ◌≡◌, ◌<◌, ◌≤◌, ◌+◌, IsTrue, length, map, not, pos, slice_get};
-ghost use Rattle.std.specs.List.{AllByRecursion};
 ghost use Rattle.arr_num.specs.Numbers.{value};
 ghost use Rattle.arr_native.specs.Entries.{entry};
 ghost use Rattle.arr_vector.specs.Sorts.{is_comparison};
@@ -10,6 +9,7 @@ ghost use Rattle.arr_lanes.specs.Spares.{HasRoom};
 use crate::fill::{fill_arithmetic, fill_comparison, fill_conversion, fill_positions, fill_power};
 use crate::lane::Lane;
 use crate::spares::Spares;
+use crate::strip::Strip;
 use arr_num::{Code, Elem};
 use arr_store::Buffer;
 
@@ -36,113 +36,91 @@ pub struct Line {
     pub dest: u32,
 }
 
-/// Runs lines one after another, each at all `count` positions of a strip, the first of which is `position`.
-pub fn run_lines(
-    lines: &[Line],
-    lanes: &mut [Buffer],
-    spares: &mut Spares,
-    position: u64,
-    count: usize,
-)
-    requires lines { AllByRecursion (LineFits count lanes.old) lines.now }
-    requires spares { HasRoom count spares.old }
-    requires few { position + count ≤ 1048576 }
-    ensures lanes { length lanes.new ≡ length lanes.old }
-    ensures types { (t : _) (r : ℕ) → IsLane t count (slice_get lanes.old r) → IsLane t count (slice_get lanes.new r) }
-    ensures numbers { (i : ℕ) → i < count → registers lanes.new i ≡ ran (position + i) (map shown lines.now) (registers lanes.old i) }
-    ensures spares { HasRoom count spares.new }
-{
-    for line in lines {
-        run_line(*line, lanes, spares, position, count);
-    }
-}
-
 /// Runs a line at all positions of a strip.
-fn run_line(line: Line, lanes: &mut [Buffer], spares: &mut Spares, position: u64, count: usize)
-    requires fits { LineFits count lanes.old line }
-    requires spares { HasRoom count spares.old }
-    requires few { position + count ≤ 1048576 }
-    ensures lanes { Becomes line.to count line.dest (λ i. line_value (position + i) (registers lanes.old i) (shown line)) lanes.old lanes.new }
-    ensures spares { HasRoom count spares.new }
+pub fn run_line(line: Line, lanes: &mut [Buffer], spares: &mut Spares, strip: Strip)
+    requires fits { LineFits strip.room lanes.old line }
+    requires spares { HasRoom strip.room spares.old }
+    requires within { strip.count ≤ strip.room }
+    requires few { strip.position + strip.count ≤ 1048576 }
+    ensures lanes { Becomes line.to strip.room strip.count line.dest (λ i. line_value (strip.position + i) (registers lanes.old i) (shown line)) lanes.old lanes.new }
+    ensures spares { HasRoom strip.room spares.new }
 {
     match line.to {
-        Elem::U8 => run_bytes(line, lanes, &mut spares.bytes, position, count),
-        Elem::I32 => run_typed(line, lanes, &mut spares.words, position, count),
-        Elem::I64 => run_typed(line, lanes, &mut spares.longs, position, count),
-        Elem::U64 => run_typed(line, lanes, &mut spares.naturals, position, count),
+        Elem::U8 => run_bytes(line, lanes, &mut spares.bytes, strip),
+        Elem::I32 => run_typed(line, lanes, &mut spares.words, strip),
+        Elem::I64 => run_typed(line, lanes, &mut spares.longs, strip),
+        Elem::U64 => run_typed(line, lanes, &mut spares.naturals, strip),
     }
 }
 
 /// Runs a line whose result is of the type u8, which a comparison may be.
-fn run_bytes(line: Line, lanes: &mut [Buffer], spare: &mut Vec<u8>, position: u64, count: usize)
-    requires fits { LineFits count lanes.old line }
+fn run_bytes(line: Line, lanes: &mut [Buffer], spare: &mut Vec<u8>, strip: Strip)
+    requires fits { LineFits strip.room lanes.old line }
     requires to { line.to ≡ Elem.U8 }
-    requires spare { count ≤ length spare.old.items }
-    requires few { position + count ≤ 1048576 }
-    ensures lanes { Becomes line.to count line.dest (λ i. line_value (position + i) (registers lanes.old i) (shown line)) lanes.old lanes.new }
-    ensures spare { count ≤ length spare.new.items }
+    requires spare { strip.room ≤ length spare.old.items }
+    requires within { strip.count ≤ strip.room }
+    requires few { strip.position + strip.count ≤ 1048576 }
+    ensures lanes { Becomes line.to strip.room strip.count line.dest (λ i. line_value (strip.position + i) (registers lanes.old i) (shown line)) lanes.old lanes.new }
+    ensures spare { strip.room ≤ length spare.new.items }
 {
     match line.work {
         Work::Comparison(code, from, first, second) => {
-            compare_lanes(spare, lanes, code, from, first, second, count);
-            put(lanes, line.dest, spare, count);
+            compare_lanes(spare, lanes, code, from, first, second, strip);
+            put(lanes, line.dest, spare, strip);
         }
-        _ => run_typed(line, lanes, spare, position, count),
+        _ => run_typed(line, lanes, spare, strip),
     }
 }
 
 /// Runs a line that is no comparison.
-fn run_typed<T: Lane>(
-    line: Line,
-    lanes: &mut [Buffer],
-    spare: &mut Vec<T>,
-    position: u64,
-    count: usize,
-)
-    requires fits { LineFits count lanes.old line }
+fn run_typed<T: Lane>(line: Line, lanes: &mut [Buffer], spare: &mut Vec<T>, strip: Strip)
+    requires fits { LineFits strip.room lanes.old line }
     requires to { line.to ≡ T.elem }
     requires work { IsTrue (not (compares line.work)) }
-    requires spare { count ≤ length spare.old.items }
-    requires few { position + count ≤ 1048576 }
-    ensures lanes { Becomes line.to count line.dest (λ i. line_value (position + i) (registers lanes.old i) (shown line)) lanes.old lanes.new }
-    ensures spare { count ≤ length spare.new.items }
+    requires spare { strip.room ≤ length spare.old.items }
+    requires within { strip.count ≤ strip.room }
+    requires few { strip.position + strip.count ≤ 1048576 }
+    ensures lanes { Becomes line.to strip.room strip.count line.dest (λ i. line_value (strip.position + i) (registers lanes.old i) (shown line)) lanes.old lanes.new }
+    ensures spare { strip.room ≤ length spare.new.items }
 {
-    fill(spare, lanes, line.work, position, count);
-    put(lanes, line.dest, spare, count);
+    fill(spare, lanes, line.work, strip);
+    put(lanes, line.dest, spare, strip);
 }
 
 /// What a line that is no comparison computes.
-fn fill<T: Lane>(out: &mut Vec<T>, lanes: &[Buffer], work: Work, position: u64, count: usize)
-    requires fits { WorkFits count lanes.now work T.elem }
+fn fill<T: Lane>(out: &mut Vec<T>, lanes: &[Buffer], work: Work, strip: Strip)
+    requires fits { WorkFits strip.room lanes.now work T.elem }
     requires work { IsTrue (not (compares work)) }
-    requires out { count ≤ length out.old.items }
-    requires few { position + count ≤ 1048576 }
+    requires out { strip.room ≤ length out.old.items }
+    requires within { strip.count ≤ strip.room }
+    requires few { strip.position + strip.count ≤ 1048576 }
     ensures length { length out.new.items ≡ length out.old.items }
-    ensures each { (i : ℕ) → i < count → entry T.number out.new.items i ≡ line_value (position + i) (registers lanes.now i) (shown_work work T.elem 0) }
+    ensures each { (i : ℕ) → i < strip.count → entry T.number out.new.items i ≡ line_value (strip.position + i) (registers lanes.now i) (shown_work work T.elem 0) }
 {
     match work {
         Work::Arithmetic(code, first, second) => {
-            fill_arithmetic(out, lanes, code, first, second, count)
+            fill_arithmetic(out, lanes, code, first, second, strip)
         }
         Work::Comparison(..) => unreachable!(),
-        Work::Power(first, exponent) => fill_power(out, lanes, first, exponent, count),
-        Work::Conversion(from, first) => convert_lane(out, lanes, from, first, count),
-        Work::Positions => fill_positions(out, position, count),
+        Work::Power(first, exponent) => fill_power(out, lanes, first, exponent, strip),
+        Work::Conversion(from, first) => convert_lane(out, lanes, from, first, strip),
+        Work::Positions => fill_positions(out, strip),
     }
 }
 
 /// The numbers of a lane of any type, in the type `T`.
-fn convert_lane<T: Lane>(out: &mut Vec<T>, lanes: &[Buffer], from: Elem, first: u32, count: usize)
-    requires out { count ≤ length out.old.items }
-    requires first { IsLane from count (slice_get lanes.now first) }
+fn convert_lane<T: Lane>(out: &mut Vec<T>, lanes: &[Buffer], from: Elem, first: u32, strip: Strip)
+    requires out { strip.room ≤ length out.old.items }
+    requires first { IsLane from strip.room (slice_get lanes.now first) }
+    requires within { strip.count ≤ strip.room }
     ensures length { length out.new.items ≡ length out.old.items }
-    ensures each { (i : ℕ) → i < count → entry T.number out.new.items i ≡ value Code.Identity T.elem (number lanes.now first i) (pos 0) }
+    ensures each { (i : ℕ) → i < strip.count → entry T.number out.new.items i ≡ value Code.Identity T.elem (number lanes.now first i) (pos 0) }
 {
     match from {
-        Elem::U8 => fill_conversion::<u8, T>(out, lanes, first, count),
-        Elem::I32 => fill_conversion::<i32, T>(out, lanes, first, count),
-        Elem::I64 => fill_conversion::<i64, T>(out, lanes, first, count),
-        Elem::U64 => fill_conversion::<u64, T>(out, lanes, first, count),
+        Elem::U8 => fill_conversion::<u8, T>(out, lanes, first, strip),
+        Elem::I32 => fill_conversion::<i32, T>(out, lanes, first, strip),
+        Elem::I64 => fill_conversion::<i64, T>(out, lanes, first, strip),
+        Elem::U64 => fill_conversion::<u64, T>(out, lanes, first, strip),
     }
 }
 
@@ -154,30 +132,31 @@ fn compare_lanes(
     from: Elem,
     first: u32,
     second: u32,
-    count: usize,
+    strip: Strip,
 )
-    requires out { count ≤ length out.old.items }
+    requires out { strip.room ≤ length out.old.items }
     requires code { IsTrue (is_comparison code) }
-    requires first { IsLane from count (slice_get lanes.now first) }
-    requires second { IsLane from count (slice_get lanes.now second) }
+    requires first { IsLane from strip.room (slice_get lanes.now first) }
+    requires second { IsLane from strip.room (slice_get lanes.now second) }
+    requires within { strip.count ≤ strip.room }
     ensures length { length out.new.items ≡ length out.old.items }
-    ensures each { (i : ℕ) → i < count → entry pos out.new.items i ≡ value code Elem.U8 (number lanes.now first i) (number lanes.now second i) }
+    ensures each { (i : ℕ) → i < strip.count → entry pos out.new.items i ≡ value code Elem.U8 (number lanes.now first i) (number lanes.now second i) }
 {
     match from {
-        Elem::U8 => fill_comparison::<u8>(out, lanes, code, first, second, count),
-        Elem::I32 => fill_comparison::<i32>(out, lanes, code, first, second, count),
-        Elem::I64 => fill_comparison::<i64>(out, lanes, code, first, second, count),
-        Elem::U64 => fill_comparison::<u64>(out, lanes, code, first, second, count),
+        Elem::U8 => fill_comparison::<u8>(out, lanes, code, first, second, strip),
+        Elem::I32 => fill_comparison::<i32>(out, lanes, code, first, second, strip),
+        Elem::I64 => fill_comparison::<i64>(out, lanes, code, first, second, strip),
+        Elem::U64 => fill_comparison::<u64>(out, lanes, code, first, second, strip),
     }
 }
 
-/// Lets a list and the numbers of a lane change places.
+/// Lets a list and the numbers of a lane change places; both have room for so many numbers.
 #[inline(always)]
-fn put<T: Lane>(lanes: &mut [Buffer], dest: u32, list: &mut Vec<T>, _count: usize)
-    requires dest { IsLane T.elem _count (slice_get lanes.old dest) }
-    requires list { _count ≤ length list.old.items }
-    ensures lanes { Becomes T.elem _count dest (entry T.number list.old.items) lanes.old lanes.new }
-    ensures list { _count ≤ length list.new.items }
+pub fn put<T: Lane>(lanes: &mut [Buffer], dest: u32, list: &mut Vec<T>, strip: Strip)
+    requires dest { IsLane T.elem strip.room (slice_get lanes.old dest) }
+    requires list { strip.room ≤ length list.old.items }
+    ensures lanes { Becomes T.elem strip.room strip.count dest (entry T.number list.old.items) lanes.old lanes.new }
+    ensures list { strip.room ≤ length list.new.items }
 {
     T::exchange(&mut lanes[dest as usize], list);
 }

@@ -6,10 +6,10 @@ use std::alloc::{AllocError as NoMemory, Global};
 /// A list of each native type that no lane holds.
 #[derive(Debug, Drop)]
 pub struct Spares {
-    pub(crate) bytes: Vec<u8>,
-    pub(crate) words: Vec<i32>,
-    pub(crate) longs: Vec<i64>,
-    pub(crate) naturals: Vec<u64>,
+    pub bytes: Vec<u8>,
+    pub words: Vec<i32>,
+    pub longs: Vec<i64>,
+    pub naturals: Vec<u64>,
 }
 
 impl Spares {

@@ -29,19 +29,15 @@ use Rattle.arr_perform.proofs.Performing.{computed_alike}
 use Rattle.arr_strips.proofs.Sames.{all_distinct, any_all, or_true}
 use Rattle.arr_strips.proofs.Sorts.{Reducing, sorts}
 use Rattle.arr_contract.specs.Prepared.{may_share_block}
-use Rattle.arr_contract.proofs.Weighing.{types_agree}
-use Rattle.arr_loop.specs.Numbers.{inner_of, loads_each}
+use Rattle.arr_machine.proofs.Types.{types_there}
+use Rattle.arr_loop.specs.Numbers.{loads_each}
+use Rattle.arr_machine.specs.Kept.{inner_of}
 use Rattle.arr_loop.specs.Opened.{unopened}
 use Rattle.arr_loop.proofs.Elements.{width_met}
 use Rattle.arr_loop.proofs.Lone.{Lone, busy, creates_none, eager_lone, reads_lone, serial_makes, writes_lone}
 use Rattle.arr_loop.proofs.Shares.{all_typed, in_turn}
 
 -- ---- the types of its bases
-
-types_there : (ops : List Op) → each_typed ops ≡ true → AllByRecursion (λ f. AllByRecursion (λ (p : ℕ × Elem). elem_of ops p.0 ≡ p.1) (typed f)) ops
-types_there ops h =
-    types_agree ops
-    (All_weaker (λ f. list_all (same_types f) ops ≡ true) (λ f. AllByRecursion (λ g. same_types f g ≡ true) ops) (λ f e. all_of (same_types f) ops e) ops (all_of (λ f. list_all (same_types f) ops) ops h))
 
 at_lone : (P : Op → Type 0) (ops : List Op) (op : Op) (l : Lone ops op) → AllByRecursion P ops → P op
 at_lone P ops op l h = (all_right P l.front (op ∷ l.back) (subst (AllByRecursion P) l.is h)).0

@@ -24,10 +24,6 @@ same_views _ _ = false
 abbrev pub same_inputs : Op → Bool
 same_inputs op = same_views (array_of op.first) (array_of op.second)
 
--- how many positions of its input stand behind the axis that it folds along
-abbrev pub inner_of : Op → ℕ
-inner_of op = positions (drop (suc (or_zero op.axis)) (lengths_of op.first))
-
 -- how many bytes are loaded for one result: a reduction's numbers along its axis, or one number for each distinct input
 abbrev pub loads_each : Op → ℕ
 loads_each op = cond (is_reduction op.code) (axis_length op) (length (distinct identical (inputs op))) * width op.from

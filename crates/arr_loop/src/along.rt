@@ -9,7 +9,8 @@ ghost use Rattle.arr_ops.specs.Memory.{computed, or_zero};
 ghost use Rattle.arr_ops.specs.Traffic.{axis_length};
 ghost use Rattle.arr_store.specs.Stored.{memory_of};
 ghost use Rattle.arr_strips.specs.Columns.{count};
-ghost use Rattle.arr_loop.specs.Numbers.{inner_of, loads_each};
+ghost use Rattle.arr_loop.specs.Numbers.{loads_each};
+ghost use Rattle.arr_machine.specs.Kept.{inner_of};
 
 use crate::computing::view_number;
 use arr_contract::Prepared;

@@ -1,6 +1,7 @@
-mod Turns
-mod Rows
-mod Lanes
-mod Parts
-mod Rests
-mod Parted
+pub mod Turns
+pub mod Kept
+pub mod Rows
+pub mod Lanes
+pub mod Parts
+pub mod Rests
+pub mod Parted

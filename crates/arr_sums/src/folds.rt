@@ -1,10 +1,11 @@
-ghost use Rattle.std.specs.Prelude.{ℕ, ◌≡◌, ◌≢◌, ◌+◌, ◌<◌, ◌≤◌, IsTrue, length};
+ghost use Rattle.std.specs.Prelude.{ℕ, ◌≡◌, ◌+◌, ◌<◌, ◌≤◌, IsTrue, get_or, length, pos, true};
 ghost use Rattle.arr_num.specs.Kinds.{is_fold};
-ghost use Rattle.arr_num.specs.Numbers.{value};
+ghost use Rattle.arr_num.specs.Numbers.{in_type, value};
 ghost use Rattle.arr_native.specs.Entries.{entry};
 ghost use Rattle.arr_strips.specs.Columns.{fold_upto};
+ghost use Rattle.arr_sums.specs.Kept.{AreOf, StepsEach, kept_at};
 
-use arr_native::Native;
+use arr_lanes::Lane;
 use arr_num::Code;
 
 // One closure for each code, so that each code has a loop of its own.
@@ -24,26 +25,25 @@ macro_rules! table {
 
 /// Folds numbers that lie side by side into one accumulator.
 #[inline(always)]
-pub(crate) fn fold_lane<T: Native>(
+pub(crate) fn fold_lane<T: Lane>(
     code: Code,
-    sums: &mut [T],
-    lane: usize,
+    sums: &mut [i128],
+    at: usize,
     source: &[T],
     from: usize,
     count: usize,
 )
     requires code { IsTrue (is_fold code) }
-    requires sums { lane < length sums.old }
+    requires sums { at < length sums.old }
+    requires typed { in_type T.elem (get_or sums.old at (pos 0)) ≡ true }
     requires source { from + count ≤ length source.now }
-    ensures length { length sums.new ≡ length sums.old }
-    ensures lane { entry T.number sums.new lane ≡ fold_upto (value code T.elem) (entry T.number sums.old lane) (λ j. entry T.number source.now (from + j)) count }
-    ensures others { (l : ℕ) → lane ≢ l → entry T.number sums.new l ≡ entry T.number sums.old l }
+    ensures { StepsEach T.elem (λ sum x. fold_upto (value code T.elem) sum (λ j. entry T.number source.now (from + j)) count) sums.old (λ j. pos 0) at 1 sums.new }
 {
-    sums[lane] = fold_run(code, source, from, count, sums[lane]);
+    sums[at] = fold_run(code, source, from, count, T::narrow(sums[at])).widen();
 }
 
 /// Folds numbers that lie side by side.
-fn fold_run<T: Native>(code: Code, source: &[T], from: usize, count: usize, start: T) -> T
+fn fold_run<T: Lane>(code: Code, source: &[T], from: usize, count: usize, start: T) -> T
     requires code { IsTrue (is_fold code) }
     requires source { from + count ≤ length source.now }
     ensures { T.number result ≡ fold_upto (value code T.elem) (T.number start) (λ j. entry T.number source.now (from + j)) count }
@@ -52,9 +52,9 @@ fn fold_run<T: Native>(code: Code, source: &[T], from: usize, count: usize, star
 }
 
 /// Folds one number into each of some accumulators side by side.
-pub(crate) fn fold_row<T: Native>(
+pub(crate) fn fold_row<T: Lane>(
     code: Code,
-    sums: &mut [T],
+    sums: &mut [i128],
     at: usize,
     source: &[T],
     from: usize,
@@ -62,18 +62,16 @@ pub(crate) fn fold_row<T: Native>(
 )
     requires code { IsTrue (is_fold code) }
     requires sums { at + count ≤ length sums.old }
+    requires typed { AreOf T.elem sums.old at count }
     requires source { from + count ≤ length source.now }
-    ensures length { length sums.new ≡ length sums.old }
-    ensures each { (j : ℕ) → j < count → entry T.number sums.new (at + j) ≡ value code T.elem (entry T.number sums.old (at + j)) (entry T.number source.now (from + j)) }
-    ensures before { (l : ℕ) → l < at → entry T.number sums.new l ≡ entry T.number sums.old l }
-    ensures behind { (l : ℕ) → at + count ≤ l → entry T.number sums.new l ≡ entry T.number sums.old l }
+    ensures { StepsEach T.elem (value code T.elem) sums.old (λ j. entry T.number source.now (from + j)) at count sums.new }
 {
     table!(row_with, code, sums, at, source, from, count)
 }
 
 /// Folds numbers that lie side by side by `f`, which gives the values of a code.
 #[inline(always)]
-fn fold_with<T: Native, F: Fn(T, T) -> T>(
+fn fold_with<T: Lane, F: Fn(T, T) -> T>(
     _code: Code,
     source: &[T],
     from: usize,
@@ -95,9 +93,9 @@ fn fold_with<T: Native, F: Fn(T, T) -> T>(
 
 /// Folds one number into each of some accumulators by `f`, which gives the values of a code.
 #[inline(always)]
-fn row_with<T: Native, F: Fn(T, T) -> T>(
+fn row_with<T: Lane, F: Fn(T, T) -> T>(
     _code: Code,
-    sums: &mut [T],
+    sums: &mut [i128],
     at: usize,
     source: &[T],
     from: usize,
@@ -105,21 +103,19 @@ fn row_with<T: Native, F: Fn(T, T) -> T>(
     f: F,
 )
     requires sums { at + count ≤ length sums.old }
+    requires typed { AreOf T.elem sums.old at count }
     requires source { from + count ≤ length source.now }
     requires callable { F.IsAlwaysCallable f }
     requires values { (x y z : T) → F.post f x y z → T.number z ≡ value _code T.elem (T.number x) (T.number y) }
-    ensures length { length sums.new ≡ length sums.old }
-    ensures each { (j : ℕ) → j < count → entry T.number sums.new (at + j) ≡ value _code T.elem (entry T.number sums.old (at + j)) (entry T.number source.now (from + j)) }
-    ensures before { (l : ℕ) → l < at → entry T.number sums.new l ≡ entry T.number sums.old l }
-    ensures behind { (l : ℕ) → at + count ≤ l → entry T.number sums.new l ≡ entry T.number sums.old l }
+    ensures { StepsEach T.elem (value _code T.elem) sums.old (λ j. entry T.number source.now (from + j)) at count sums.new }
 {
     for i in 0..count {
-        sums[at + i] = f(sums[at + i], source[from + i]);
+        sums[at + i] = f(T::narrow(sums[at + i]), source[from + i]).widen();
     }
 }
 
 /// Folds numbers that lie side by side, and writes the fold so far at each place.
-pub(crate) fn scan_run<T: Native>(
+pub(crate) fn scan_run<T: Lane>(
     code: Code,
     out: &mut [T],
     source: &[T],
@@ -140,7 +136,7 @@ pub(crate) fn scan_run<T: Native>(
 
 /// Folds numbers that lie side by side by `f`, which gives the values of a code, and writes the fold so far at each place.
 #[inline(always)]
-fn scan_with<T: Native, F: Fn(T, T) -> T>(
+fn scan_with<T: Lane, F: Fn(T, T) -> T>(
     _code: Code,
     out: &mut [T],
     source: &[T],
@@ -166,31 +162,28 @@ fn scan_with<T: Native, F: Fn(T, T) -> T>(
     sum
 }
 
-/// Writes one number at places side by side.
+/// Lets some accumulators side by side begin anew.
 #[inline(always)]
-pub(crate) fn refill<T: Native>(out: &mut [T], at: usize, number: T, count: usize)
-    requires { at + count ≤ length out.old }
-    ensures length { length out.new ≡ length out.old }
-    ensures each { (j : ℕ) → j < count → entry T.number out.new (at + j) ≡ T.number number }
-    ensures before { (l : ℕ) → l < at → entry T.number out.new l ≡ entry T.number out.old l }
-    ensures behind { (l : ℕ) → at + count ≤ l → entry T.number out.new l ≡ entry T.number out.old l }
+pub(crate) fn refill<T: Lane>(sums: &mut [i128], at: usize, start: T, count: usize)
+    requires { at + count ≤ length sums.old }
+    ensures { StepsEach T.elem (λ sum x. T.number start) sums.old (λ j. pos 0) at count sums.new }
 {
     for i in 0..count {
-        out[at + i] = number;
+        sums[at + i] = start.widen();
     }
 }
 
-/// Copies numbers side by side.
+/// Copies accumulators side by side into a list of their type.
 #[inline(always)]
-pub(crate) fn copy<T: Native>(out: &mut [T], at: usize, source: &[T], from: usize, count: usize)
+pub(crate) fn copy<T: Lane>(out: &mut [T], at: usize, sums: &[i128], from: usize, count: usize)
     requires out { at + count ≤ length out.old }
-    requires source { from + count ≤ length source.now }
+    requires sums { from + count ≤ length sums.now }
+    requires typed { AreOf T.elem sums.now from count }
     ensures length { length out.new ≡ length out.old }
-    ensures each { (j : ℕ) → j < count → entry T.number out.new (at + j) ≡ entry T.number source.now (from + j) }
+    ensures each { (j : ℕ) → j < count → entry T.number out.new (at + j) ≡ kept_at sums.now from j }
     ensures before { (l : ℕ) → l < at → entry T.number out.new l ≡ entry T.number out.old l }
-    ensures behind { (l : ℕ) → at + count ≤ l → entry T.number out.new l ≡ entry T.number out.old l }
 {
     for i in 0..count {
-        out[at + i] = source[from + i];
+        out[at + i] = T::narrow(sums[from + i]);
     }
 }

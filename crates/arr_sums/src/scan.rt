@@ -1,22 +1,25 @@
-ghost use Rattle.std.specs.Prelude.{ℕ, ◌≡◌, ◌+◌, ◌*◌, ◌%◌, ◌<◌, ◌≤◌, IsTrue, cond, length};
+ghost use Rattle.std.specs.Prelude.{ℕ, ◌≡◌, ◌+◌, ◌*◌, ◌%◌, ◌<◌, ◌≤◌, IsTrue, cond, get_or, length, pos, true};
 ghost use Rattle.arr_num.specs.Kinds.{is_fold};
-ghost use Rattle.arr_num.specs.Numbers.{value};
+ghost use Rattle.arr_num.specs.Numbers.{in_type, value};
 ghost use Rattle.arr_native.specs.Entries.{entry};
+ghost use Rattle.arr_sums.specs.Kept.{AreOf, ChangesWithin, StepsEach, kept_at};
 ghost use Rattle.arr_sums.specs.Scanning.{ScansOn};
 
 use crate::axis::Axis;
 use crate::folds::{copy, fold_row, refill, scan_run};
-use arr_native::Native;
+use arr_lanes::Lane;
 use arr_num::Code;
 use arr_view::MOST_ELEMENTS;
 
 /// The results of a scan along an axis (docs/LANGUAGE.md, "Opcodes") at the first `count` positions from `position` on, from the
 /// first `count` numbers of `source`, into the front of `out`. The carries are the results of the positions just before, one for
-/// each position of a row after the axis; the first strip may find anything there. Each lane begins with `start`.
-pub fn scan_strip<T: Native>(
+/// each position of a row after the axis, among other numbers from the place `at` on; the first strip may find any numbers of the
+/// type there. Each lane begins with `start`.
+pub fn scan_strip<T: Lane>(
     code: Code,
     out: &mut [T],
-    carries: &mut [T],
+    carries: &mut [i128],
+    at: usize,
     source: &[T],
     start: T,
     position: usize,
@@ -26,27 +29,29 @@ pub fn scan_strip<T: Native>(
     requires code { IsTrue (is_fold code) }
     requires out { count ≤ length out.old }
     requires source { count ≤ length source.now }
-    requires carries { length carries.old ≡ axis.inner }
+    requires carries { at + axis.inner ≤ length carries.old }
+    requires typed { AreOf T.elem carries.old at axis.inner }
     requires some { 1 ≤ axis.length }
     requires inner { 1 ≤ axis.inner }
     requires inside { position + count ≤ axis.outer * (axis.length * axis.inner) }
     requires short { position + count ≤ MOST_ELEMENTS }
     ensures out { length out.new ≡ length out.old }
-    ensures carries { length carries.new ≡ length carries.old }
-    ensures scanned { ScansOn (value code T.elem) (T.number start) axis.length axis.inner (entry T.number carries.old) (entry T.number carries.new) (entry T.number out.new) (entry T.number source.now) position 0 count }
+    ensures carries { ChangesWithin T.elem at axis.inner carries.old carries.new }
+    ensures scanned { ScansOn (value code T.elem) (T.number start) axis.length axis.inner (kept_at carries.old at) (kept_at carries.new at) (entry T.number out.new) (entry T.number source.now) position 0 count }
 {
     if axis.inner == 1 {
-        scan_lanes(code, out, carries, source, start, position, count, axis);
+        scan_lanes(code, out, carries, at, source, start, position, count, axis);
     } else {
-        scan_rows(code, out, carries, source, start, position, count, axis);
+        scan_rows(code, out, carries, at, source, start, position, count, axis);
     }
 }
 
 /// Scans a strip where the positions of a lane lie side by side.
-fn scan_lanes<T: Native>(
+fn scan_lanes<T: Lane>(
     code: Code,
     out: &mut [T],
-    carries: &mut [T],
+    carries: &mut [i128],
+    at: usize,
     source: &[T],
     start: T,
     position: usize,
@@ -56,31 +61,35 @@ fn scan_lanes<T: Native>(
     requires code { IsTrue (is_fold code) }
     requires out { count ≤ length out.old }
     requires source { count ≤ length source.now }
-    requires carries { length carries.old ≡ axis.inner }
+    requires carries { at + axis.inner ≤ length carries.old }
+    requires typed { AreOf T.elem carries.old at axis.inner }
     requires some { 1 ≤ axis.length }
     requires inner { axis.inner ≡ 1 }
     requires inside { position + count ≤ axis.outer * (axis.length * axis.inner) }
     requires short { position + count ≤ MOST_ELEMENTS }
     ensures out { length out.new ≡ length out.old }
-    ensures carries { length carries.new ≡ length carries.old }
-    ensures scanned { ScansOn (value code T.elem) (T.number start) axis.length axis.inner (entry T.number carries.old) (entry T.number carries.new) (entry T.number out.new) (entry T.number source.now) position 0 count }
+    ensures carries { ChangesWithin T.elem at axis.inner carries.old carries.new }
+    ensures scanned { ScansOn (value code T.elem) (T.number start) axis.length axis.inner (kept_at carries.old at) (kept_at carries.new at) (entry T.number out.new) (entry T.number source.now) position 0 count }
 {
     let mut done = 0;
     while done < count {
         let place = position + done;
         let room = axis.length - place % axis.length;
         let run = room.min(count - done);
-        scan_lane_part(code, out, carries, source, start, done, place, run, axis);
+        scan_lane_part(
+            code, out, carries, at, source, start, done, place, run, axis,
+        );
         done += run;
     }
 }
 
 /// Scans a part of a lane, from a position on.
 #[inline(always)]
-fn scan_lane_part<T: Native>(
+fn scan_lane_part<T: Lane>(
     code: Code,
     out: &mut [T],
-    carries: &mut [T],
+    carries: &mut [i128],
+    at: usize,
     source: &[T],
     start: T,
     from: usize,
@@ -91,38 +100,41 @@ fn scan_lane_part<T: Native>(
     requires code { IsTrue (is_fold code) }
     requires out { from + run ≤ length out.old }
     requires source { from + run ≤ length source.now }
-    requires carries { length carries.old ≡ axis.inner }
+    requires carries { at + axis.inner ≤ length carries.old }
+    requires typed { AreOf T.elem carries.old at axis.inner }
     requires some { 1 ≤ axis.length }
     requires inner { axis.inner ≡ 1 }
     requires run { 1 ≤ run }
     requires lane { place % axis.length + run ≤ axis.length }
     requires inside { place + run ≤ axis.outer * (axis.length * axis.inner) }
     ensures out { length out.new ≡ length out.old }
-    ensures carries { length carries.new ≡ length carries.old }
+    ensures carries { ChangesWithin T.elem at axis.inner carries.old carries.new }
     ensures before { (l : ℕ) → l < from → entry T.number out.new l ≡ entry T.number out.old l }
-    ensures scanned { ScansOn (value code T.elem) (T.number start) axis.length axis.inner (entry T.number carries.old) (entry T.number carries.new) (entry T.number out.new) (entry T.number source.now) place from run }
+    ensures scanned { ScansOn (value code T.elem) (T.number start) axis.length axis.inner (kept_at carries.old at) (kept_at carries.new at) (entry T.number out.new) (entry T.number source.now) place from run }
 {
-    let before = fold_before(carries, start, place % axis.length == 0);
-    carries[0] = scan_run(code, out, source, from, run, before);
+    let before = fold_before(carries, at, start, place % axis.length == 0);
+    carries[at] = scan_run(code, out, source, from, run, before).widen();
 }
 
 /// What the fold of a lane holds before a position: its start where the position is the first of the lane.
 #[inline(always)]
-fn fold_before<T: Native>(carries: &[T], start: T, first: bool) -> T
-    requires { 1 ≤ length carries.now }
-    ensures { T.number result ≡ cond first (T.number start) (entry T.number carries.now 0) }
+fn fold_before<T: Lane>(carries: &[i128], at: usize, start: T, first: bool) -> T
+    requires there { at < length carries.now }
+    requires typed { in_type T.elem (get_or carries.now at (pos 0)) ≡ true }
+    ensures { T.number result ≡ cond first (T.number start) (get_or carries.now at (pos 0)) }
 {
     if first {
         return start;
     }
-    carries[0]
+    T::narrow(carries[at])
 }
 
 /// Scans a strip by rows of positions that lie side by side.
-fn scan_rows<T: Native>(
+fn scan_rows<T: Lane>(
     code: Code,
     out: &mut [T],
-    carries: &mut [T],
+    carries: &mut [i128],
+    at: usize,
     source: &[T],
     start: T,
     position: usize,
@@ -132,31 +144,35 @@ fn scan_rows<T: Native>(
     requires code { IsTrue (is_fold code) }
     requires out { count ≤ length out.old }
     requires source { count ≤ length source.now }
-    requires carries { length carries.old ≡ axis.inner }
+    requires carries { at + axis.inner ≤ length carries.old }
+    requires typed { AreOf T.elem carries.old at axis.inner }
     requires some { 1 ≤ axis.length }
     requires inner { 1 ≤ axis.inner }
     requires inside { position + count ≤ axis.outer * (axis.length * axis.inner) }
     requires short { position + count ≤ MOST_ELEMENTS }
     ensures out { length out.new ≡ length out.old }
-    ensures carries { length carries.new ≡ length carries.old }
-    ensures scanned { ScansOn (value code T.elem) (T.number start) axis.length axis.inner (entry T.number carries.old) (entry T.number carries.new) (entry T.number out.new) (entry T.number source.now) position 0 count }
+    ensures carries { ChangesWithin T.elem at axis.inner carries.old carries.new }
+    ensures scanned { ScansOn (value code T.elem) (T.number start) axis.length axis.inner (kept_at carries.old at) (kept_at carries.new at) (entry T.number out.new) (entry T.number source.now) position 0 count }
 {
     let mut done = 0;
     while done < count {
         let place = position + done;
         let room = axis.inner - place % axis.inner;
         let run = room.min(count - done);
-        scan_row_part(code, out, carries, source, start, done, place, run, axis);
+        scan_row_part(
+            code, out, carries, at, source, start, done, place, run, axis,
+        );
         done += run;
     }
 }
 
 /// Scans a part of a row, from a position on.
 #[inline(always)]
-fn scan_row_part<T: Native>(
+fn scan_row_part<T: Lane>(
     code: Code,
     out: &mut [T],
-    carries: &mut [T],
+    carries: &mut [i128],
+    at: usize,
     source: &[T],
     start: T,
     from: usize,
@@ -167,17 +183,18 @@ fn scan_row_part<T: Native>(
     requires code { IsTrue (is_fold code) }
     requires out { from + run ≤ length out.old }
     requires source { from + run ≤ length source.now }
-    requires carries { length carries.old ≡ axis.inner }
+    requires carries { at + axis.inner ≤ length carries.old }
+    requires typed { AreOf T.elem carries.old at axis.inner }
     requires some { 1 ≤ axis.length }
     requires inner { 1 ≤ axis.inner }
     requires row { place % axis.inner + run ≤ axis.inner }
     requires inside { place + run ≤ axis.outer * (axis.length * axis.inner) }
     ensures out { length out.new ≡ length out.old }
-    ensures carries { length carries.new ≡ length carries.old }
+    ensures carries { ChangesWithin T.elem at axis.inner carries.old carries.new }
     ensures before { (l : ℕ) → l < from → entry T.number out.new l ≡ entry T.number out.old l }
-    ensures scanned { ScansOn (value code T.elem) (T.number start) axis.length axis.inner (entry T.number carries.old) (entry T.number carries.new) (entry T.number out.new) (entry T.number source.now) place from run }
+    ensures scanned { ScansOn (value code T.elem) (T.number start) axis.length axis.inner (kept_at carries.old at) (kept_at carries.new at) (entry T.number out.new) (entry T.number source.now) place from run }
 {
-    let column = place % axis.inner;
+    let column = at + place % axis.inner;
     let first = place / axis.inner % axis.length == 0;
     step_row(code, carries, column, source, from, run, start, first);
     copy(out, from, carries, column, run);
@@ -185,9 +202,9 @@ fn scan_row_part<T: Native>(
 
 /// Folds one number into each of some carries side by side, each of which begins anew where the row is the first of its lanes.
 #[inline(always)]
-fn step_row<T: Native>(
+fn step_row<T: Lane>(
     code: Code,
-    carries: &mut [T],
+    carries: &mut [i128],
     at: usize,
     source: &[T],
     from: usize,
@@ -197,11 +214,9 @@ fn step_row<T: Native>(
 )
     requires code { IsTrue (is_fold code) }
     requires carries { at + count ≤ length carries.old }
+    requires typed { AreOf T.elem carries.old at count }
     requires source { from + count ≤ length source.now }
-    ensures length { length carries.new ≡ length carries.old }
-    ensures each { (j : ℕ) → j < count → entry T.number carries.new (at + j) ≡ value code T.elem (cond first (T.number start) (entry T.number carries.old (at + j))) (entry T.number source.now (from + j)) }
-    ensures before { (l : ℕ) → l < at → entry T.number carries.new l ≡ entry T.number carries.old l }
-    ensures behind { (l : ℕ) → at + count ≤ l → entry T.number carries.new l ≡ entry T.number carries.old l }
+    ensures { StepsEach T.elem (λ carry x. value code T.elem (cond first (T.number start) carry) x) carries.old (λ j. entry T.number source.now (from + j)) at count carries.new }
 {
     if first {
         refill(carries, at, start, count);

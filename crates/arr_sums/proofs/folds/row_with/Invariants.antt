@@ -1,8 +1,8 @@
-use Rattle.std.proofs.Common.{◌≡◌, length}
+use Rattle.std.proofs.Common.{◌+◌}
 use Rattle.arr_num.specs.Numbers.{value}
-use Rattle.arr_sums.proofs.Turns.{RowDone}
+use Rattle.arr_native.specs.Entries.{entry}
+use Rattle.arr_sums.specs.Kept.{StepsEach}
 use Rattle.arr_sums.proofs.folds.row_with.Given as goal
 
 abbrev pub invariant-loop-i : goal.invariant-loop-i
-invariant-loop-i g l =
-    record { long : length l.sums ≡ length l.fn.sums; done : RowDone g.T.Native.number (value l.fn._code g.T.Native.elem) l.fn.sums l.source l.fn.at l.fn.from l.i l.sums }
+invariant-loop-i g l = StepsEach g.T.Native.elem (value l.fn._code g.T.Native.elem) l.fn.sums (λ j. entry g.T.Native.number l.source (l.from + j)) l.fn.at l.i l.sums

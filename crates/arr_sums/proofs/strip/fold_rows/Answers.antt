@@ -1,29 +1,27 @@
-use Rattle.std.proofs.Common.{◌∙◌, ◌+◌, subst, length, refl, sym, arith, ◌-◌, ◌≤◌}
+use Rattle.std.proofs.Common.{◌+◌, ◌*◌, ◌-◌, ◌≤◌, subst, sym, arith}
 use Rattle.std.proofs.Math.Nat.{min-le_right}
 use Rattle.arr_num.specs.Numbers.{value}
 use Rattle.arr_native.specs.Entries.{entry}
-use Rattle.arr_sums.specs.Gathering.{FoldsOn}
+use Rattle.arr_sums.specs.Kept.{kept_at}
+use Rattle.arr_sums.proofs.Kept.{within_more, within_none}
 use Rattle.arr_sums.proofs.Parts.{gathers_none, gathers_more, part_below}
 use Rattle.arr_sums.proofs.strip.fold_rows.Goals as goal
 
 pub loop-done-init : goal.loop-done-init
 loop-done-init g c =
     record {
-      long = refl;
       below = omega arith;
-      gathered = gathers_none (value c.args.code g.T.Native.elem) c.args.axis.length c.args.axis.inner (length c.args.sums.now) (entry g.T.Native.number c.args.sums.now)
+      changes = within_none g.T.Native.elem c.args.at (c.args.axis.outer * c.args.axis.inner) c.args.sums.now;
+      gathered = gathers_none (value c.args.code g.T.Native.elem) c.args.axis.length c.args.axis.inner (c.args.axis.outer * c.args.axis.inner) (kept_at c.args.sums.now c.args.at)
           (entry g.T.Native.number c.args.source.now) c.args.position 0;
     }
 
 pub loop-done-preserved : goal.loop-done-preserved
 loop-done-preserved g c =
-    let v = value c.args.code g.T.Native.elem in
     record {
-      long = c.fold_row_part.ensures.length ∙ c.loop-done.invariant.long;
       below = part_below c.args.count c.loop-done.done c.min-run.result (subst (λ k. k ≤ c.args.count - c.loop-done.done) (sym c.min-run.ensures) (min-le_right _ _)) c.loop-done-test.true;
-      gathered = gathers_more v c.args.axis.length c.args.axis.inner (length c.args.sums.now) (entry g.T.Native.number c.args.sums.now) (entry g.T.Native.number c.loop-done.sums)
-          (entry g.T.Native.number c.fold_row_part.new.sums) (entry g.T.Native.number c.args.source.now) c.args.position c.loop-done.done c.min-run.result c.loop-done.invariant.gathered
-          (subst
-          (λ k. FoldsOn v c.args.axis.length c.args.axis.inner k (entry g.T.Native.number c.loop-done.sums) (entry g.T.Native.number c.fold_row_part.new.sums)
-          (entry g.T.Native.number c.args.source.now) (c.args.position + c.loop-done.done) c.loop-done.done c.min-run.result) c.loop-done.invariant.long c.fold_row_part.ensures.gathered);
+      changes = within_more g.T.Native.elem c.args.at (c.args.axis.outer * c.args.axis.inner) c.args.sums.now c.loop-done.sums c.fold_row_part.new.sums c.loop-done.invariant.changes c.fold_row_part.ensures.changes;
+      gathered = gathers_more (value c.args.code g.T.Native.elem) c.args.axis.length c.args.axis.inner (c.args.axis.outer * c.args.axis.inner) (kept_at c.args.sums.now c.args.at)
+          (kept_at c.loop-done.sums c.args.at) (kept_at c.fold_row_part.new.sums c.args.at) (entry g.T.Native.number c.args.source.now) c.args.position c.loop-done.done c.min-run.result
+          c.loop-done.invariant.gathered c.fold_row_part.ensures.gathered;
     }

@@ -1,11 +1,15 @@
-use Rattle.std.proofs.Common.{◌≡◌, ◌∙◌, ◌≤◌, length, ap, arith, rules}
+use Rattle.std.proofs.Common.{◌≡◌, ◌∙◌, ◌≤◌, List, length, true, ap, sym, subst, arith, rules}
 use Rattle.std.specs.List.{list_any}
+use Rattle.arr_ops.specs.declared.op.Op.{Op}
 use Rattle.arr_ops.specs.Costs.{reads, writes}
 use Rattle.arr_ops.specs.Ops.{serial}
 use Rattle.arr_ops.specs.Plans.{numbered, ops_of}
 use Rattle.arr_ops.specs.Traffic.{contracted, scratch}
+use Rattle.arr_strips.specs.Registers.{register_views}
+use Rattle.arr_machine.specs.Machines.{IsMachineOf}
 use Rattle.arr_contract.specs.Prepared.{may_share_block}
 use Rattle.arr_contract.proofs.Counts.{few_ops}
+use Rattle.arr_contract.proofs.Parallel.{block_typed, parallel_block}
 use Rattle.arr_contract.proofs.Shared.{shares_block}
 use Rattle.arr_contract.proofs.prepared.Prepared.of.Goals as goal
 
@@ -16,6 +20,21 @@ scratch-requires c =
     let few : length (ops_of (numbered c.args.ops.now) c.args.block.now) ≤ length c.args.ops.now = few_ops c.args.ops.now c.args.block.now in
     let most : length c.args.ops.now ≤ 256 = c.requires.few in
     omega arith
+
+pub machine_for-requires : goal.machine_for-requires
+machine_for-requires c =
+    let same : c.as_slice-7.result.now ≡ ops_of (numbered c.args.ops.now) c.args.block.now = c.as_slice-7.ensures.value ∙ c.in_ok-ops.ensures in
+    let shares : may_share_block c.as_slice-7.result.now ≡ true = ap may_share_block same ∙ shares_block c.args.ops.now c.args.block.now c.requires.formed c.requires.block in
+    let few : length (ops_of (numbered c.args.ops.now) c.args.block.now) ≤ length c.args.ops.now = few_ops c.args.ops.now c.args.block.now in
+    let long : length c.as_slice-7.result.now ≡ length (ops_of (numbered c.args.ops.now) c.args.block.now) = ap length same in
+    let most : length c.args.ops.now ≤ 256 = c.requires.few in
+    let ops_are : c.as_slice-7.result.now ≡ c.in_ok-ops.ops.items = c.as_slice-7.ensures.value in
+    record {
+      block = λ none. parallel_block c.as_slice-7.result.now shares (ap (list_any serial) (ops_are ∙ sym c.as_slice-4.ensures.value) ∙ sym c.in_ok-is_serial.ensures ∙ none);
+      types = block_typed c.as_slice-7.result.now shares;
+      few = omega arith;
+      views = c.as_slice-8.ensures.value ∙ c.in_ok-views.ensures ∙ ap register_views (c.as_slice-6.ensures.value ∙ sym ops_are);
+    }
 
 pub invariant_of-result : goal.invariant_of-result
 invariant_of-result c =
@@ -31,4 +50,5 @@ invariant_of-result c =
       c.in_ok-contracted_bases.ensures ∙ ap contracted c.as_slice-3.ensures.value,
       c.in_ok-is_serial.ensures ∙ ap (list_any serial) c.as_slice-4.ensures.value,
       numbers ∙ c.in_ok-count.ensures ∙ ap scratch c.as_slice-5.ensures.value,
+      (λ none. subst (λ (ops : List Op). IsMachineOf ops c.in_ok-machine.machine) c.as_slice-7.ensures.value (c.in_ok-machine.ensures none)),
     )

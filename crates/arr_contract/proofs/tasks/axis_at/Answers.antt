@@ -1,0 +1,24 @@
+use Rattle.std.proofs.Common.{◌≡◌, ◌∙◌, ◌+◌, ◌-◌, ◌≤◌, ap, drop, length, subst, suc, sym, take, true}
+use Rattle.std.specs.Prelude.{nat_le}
+use Rattle.std.specs.List.{list_all}
+use Rattle.arr_view.specs.Views.{positions}
+use Rattle.arr_view.proofs.Checks.{lawful}
+use Rattle.arr_perform.proofs.Moving.{few_positions}
+use Rattle.arr_perform.proofs.Results.{behind, few_inner}
+use Rattle.arr_contract.proofs.Makings.{all_front, few_front}
+use Rattle.arr_contract.proofs.tasks.axis_at.Goals as goal
+
+pub product-requires-clause-each : goal.product-requires-clause-each
+product-requires-clause-each c =
+    ap (λ xs. list_all (nat_le 1) (take c.args.axis xs)) c.shape-shape.ensures.value ∙ all_front c.args.view.now.lengths c.args.axis (lawful c.args.view.now c.shape-shape.ensures.lawful).lengths
+
+pub product-requires-clause-few : goal.product-requires-clause-few
+product-requires-clause-few c =
+    subst (λ xs. positions (take c.args.axis xs) ≤ 1048576) (sym c.shape-shape.ensures.value)
+    (few_front c.args.view.now.lengths c.args.axis (lawful c.args.view.now c.shape-shape.ensures.lawful).lengths (few_positions c.args.view.now c.shape-shape.ensures.lawful) c.requires)
+
+pub product-requires-2-clause-few : goal.product-requires-2-clause-few
+product-requires-2-clause-few c =
+    subst (λ xs. positions (take (length xs - (c.args.axis + 1)) (drop (c.args.axis + 1) xs)) ≤ 1048576) (sym c.shape-shape.ensures.value)
+    (subst (λ l. positions l ≤ 1048576) (sym (behind c.args.view.now.lengths c.args.axis))
+    (few_inner c.args.view.now.lengths c.args.axis (lawful c.args.view.now c.shape-shape.ensures.lawful).lengths (few_positions c.args.view.now c.shape-shape.ensures.lawful) c.requires))

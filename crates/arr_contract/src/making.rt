@@ -1,0 +1,167 @@
+//! All that a block takes to walk its positions in strips.
+ghost use Rattle.std.specs.Prelude.{◌≡◌, ◌≤◌, IfOk, false, length, map, true};
+ghost use Rattle.std.specs.List.{AllByRecursion, list_all};
+ghost use Rattle.std.specs.Option.{option_to_list};
+ghost use Rattle.arr_view.specs.Views.{positions};
+ghost use Rattle.arr_ops.specs.Formed.{each_typed, well_formed};
+ghost use Rattle.arr_ops.specs.Ops.{walked};
+ghost use Rattle.arr_strips.specs.Blocks.{block_positions, is_block};
+ghost use Rattle.arr_strips.specs.Registers.{register_views};
+ghost use Rattle.arr_machine.specs.Machines.{IsMachineOf};
+ghost use Rattle.arr_machine.specs.Ports.{ArePorts};
+ghost use Rattle.arr_contract.specs.Making.{IsWalked};
+
+use crate::NoMemory;
+use crate::lanes::lanes_of;
+use crate::storing::stored_views;
+use crate::tasks::{number_in, tasks_of};
+use arr_cost::block_reads;
+use arr_lanes::Spares;
+use arr_machine::{Machine, Port};
+use arr_num::Elem;
+use arr_ops::{Op, array_view};
+use arr_rows::Rows;
+use arr_view::View;
+use std::alloc::Global;
+
+/// How many bytes of numbers a lane holds at most.
+const LANE_BYTES: usize = 2048;
+
+/// How many positions an operation walks; `None` for FREE.
+fn walked_positions(op: &Op) -> Option<u32>
+    requires { well_formed op.now ≡ true }
+    ensures { option_to_list result ≡ map positions (walked op.now) }
+{
+    if op.code.walks_input() {
+        return Some(array_view(&op.first).positions());
+    }
+    match &op.out {
+        Some(out) => Some(out.positions()),
+        None => None,
+    }
+}
+
+/// How many positions the shape of a block has: that of its first operation that walks one.
+fn positions_of(ops: &[Op]) -> u32
+    requires { list_all well_formed ops.now ≡ true }
+    ensures { result ≡ block_positions ops.now }
+{
+    for op in ops {
+        if let Some(positions) = walked_positions(op) {
+            return positions;
+        }
+    }
+    1
+}
+
+/// How many bytes a number of the widest type in a block takes.
+fn widest(ops: &[Op]) -> usize
+    ensures some { 1 ≤ result }
+    ensures most { result ≤ 8 }
+{
+    let mut widest = 1;
+    for op in ops {
+        widest = widest.max(width(op.to)).max(width(op.from));
+    }
+    widest
+}
+
+/// How many bytes a number of a type takes.
+fn width(ty: Elem) -> usize
+    ensures some { 1 ≤ result }
+    ensures most { result ≤ 8 }
+{
+    match ty {
+        Elem::U8 => 1,
+        Elem::I32 => 4,
+        Elem::I64 | Elem::U64 => 8,
+    }
+}
+
+/// How many positions a strip of a block has at most: its lanes hold few bytes, and no more numbers than it has positions.
+fn room_of(ops: &[Op], positions: u32) -> usize
+    ensures some { 1 ≤ result }
+    ensures most { result ≤ 2048 }
+{
+    let room = (LANE_BYTES / widest(ops)).min(positions as usize);
+    room.max(1)
+}
+
+/// Views with their registers.
+fn ports_of(
+    alloc: Global,
+    _ops: &[Op],
+    views: &[View],
+    some: &[View],
+) -> Result<Vec<Port>, NoMemory>
+    requires views { views.now ≡ register_views _ops.now }
+    requires few { length views.now ≤ 768 }
+    requires walked { AllByRecursion (IsWalked _ops.now) some.now }
+    ensures { IfOk result (λ ports. ArePorts _ops.now some.now ports.items) }
+{
+    let mut ports = Vec::new(alloc);
+    for view in some {
+        ports.push(Port {
+            rows: Rows::of(view),
+            lane: number_in(views, view) as u32,
+        })?;
+    }
+    Ok(ports)
+}
+
+/// All that a block without serial operations takes.
+pub(crate) fn machine_of(alloc: Global, ops: &[Op], views: &[View]) -> Result<Machine, NoMemory>
+    requires block { is_block ops.now ≡ true }
+    requires types { each_typed ops.now ≡ true }
+    requires few { length ops.now ≤ 256 }
+    requires views { views.now ≡ register_views ops.now }
+    ensures { IfOk result (λ machine. IsMachineOf ops.now machine) }
+{
+    let positions = positions_of(ops);
+    let room = room_of(ops, positions);
+    let lanes = lanes_of(alloc, ops, views, room)?;
+    let tasks = tasks_of(alloc, ops, views, lanes.as_slice(), room)?;
+    let reads = block_reads(alloc, ops)?;
+    let stores = stored_views(alloc, ops)?;
+    Ok(Machine {
+        positions,
+        room,
+        tasks,
+        reads: ports_of(alloc, ops, views, reads.as_slice())?,
+        stores: ports_of(alloc, ops, views, stores.as_slice())?,
+        lanes,
+        spares: Spares::new(alloc, room)?,
+    })
+}
+
+/// All that a block takes to walk its positions; nothing, where it has a serial operation and so walks none.
+pub(crate) fn machine_for(
+    alloc: Global,
+    ops: &[Op],
+    views: &[View],
+    is_serial: bool,
+) -> Result<Machine, NoMemory>
+    requires block { is_serial ≡ false → is_block ops.now ≡ true }
+    requires types { each_typed ops.now ≡ true }
+    requires few { length ops.now ≤ 256 }
+    requires views { views.now ≡ register_views ops.now }
+    ensures { IfOk result (λ machine. is_serial ≡ false → IsMachineOf ops.now machine) }
+{
+    if is_serial {
+        return idle_machine(alloc);
+    }
+    machine_of(alloc, ops, views)
+}
+
+/// A machine that walks nothing.
+fn idle_machine(alloc: Global) -> Result<Machine, NoMemory> {
+    Ok(Machine {
+        positions: 0,
+        room: 1,
+        tasks: Vec::new(alloc),
+        reads: Vec::new(alloc),
+        stores: Vec::new(alloc),
+        lanes: Vec::new(alloc),
+        spares: Spares::new(alloc, 0)?,
+    })
+}

@@ -1,0 +1,37 @@
+-- Views that a strip loads or stores.
+use Rattle.std.specs.Prelude.{ℕ, ◌≡◌, ◌-◌, ◌<◌, List, true, get_or, length, Option}
+use Rattle.arr_view.specs.Strided.{Strided}
+use Rattle.arr_view.specs.Views.{elements, positions}
+use Rattle.arr_ops.specs.declared.op.Op.{Op}
+use Rattle.arr_ops.specs.Costs.{elem_of}
+use Rattle.arr_ops.specs.Memory.{Cell}
+use Rattle.arr_picks.specs.Picks.{AllBelow}
+use Rattle.arr_store.specs.Cells.{size_at}
+use Rattle.arr_store.specs.Runs.{IsOf}
+use Rattle.arr_store.specs.declared.buffer.Buffer.{Buffer}
+use Rattle.arr_strips.specs.Blocks.{block_positions}
+use Rattle.arr_strips.specs.Columns.{Columns}
+use Rattle.arr_strips.specs.Registers.{number_in, register_views}
+use Rattle.arr_strips.specs.Strips.{loaded}
+use Rattle.arr_lanes.specs.Lanes.{number}
+use Rattle.arr_machine.specs.declared.port.Port.{Port}
+
+-- each view of a list with the lane that is its register
+pub record IsPort (ops : List Op) (v : Strided) (port : Port) : Type 0 where
+  pub rows : port.rows ≡ v
+  pub lane : port.lane ≡ number_in (register_views ops) v
+  pub register : loaded (register_views ops) v ≡ true
+  pub long : positions v.lengths ≡ block_positions ops
+
+pub record ArePorts (ops : List Op) (vs : List Strided) (ports : List Port) : Type 0 where
+  pub long : length ports ≡ length vs
+  pub each : (k : ℕ) (v : Strided) (port : Port) → k < length vs → v ≡ get_or vs k v → port ≡ get_or ports k port → IsPort ops v port
+
+-- the base of a view is there, of the type that a block gives it, and the view lies inside
+pub record IsThere (ops : List Op) (f : ℕ → Option Cell) (v : Strided) : Type 0 where
+  pub typed : IsOf (elem_of ops v.base) (f v.base)
+  pub inside : AllBelow (size_at (f v.base)) (elements v)
+
+-- lanes at each place of a strip that begins at p, as columns
+abbrev pub lane_columns : List Op → List Buffer → ℕ → Columns
+lane_columns ops lanes p q v = number lanes (number_in (register_views ops) v) (q - p)

@@ -1,0 +1,47 @@
+-- Where a walk stands between two operations of a block, in the strip of c positions from p on.
+use Rattle.std.specs.Prelude.{ℕ, ℤ, ◌≡◌, ◌+◌, ◌<◌, ◌≤◌, nat_lt, true, List, cond, get_or, take, length, Option}
+use Rattle.arr_view.specs.Strided.{Strided}
+use Rattle.arr_ops.specs.declared.op.Op.{Op}
+use Rattle.arr_ops.specs.Formed.{each_typed}
+use Rattle.arr_ops.specs.Memory.{Slot}
+use Rattle.arr_ops.specs.Traffic.{scratch}
+use Rattle.arr_store.specs.declared.buffer.Buffer.{Buffer}
+use Rattle.arr_strips.specs.Blocks.{block_positions, is_block}
+use Rattle.arr_strips.specs.Columns.{Columns, ends}
+use Rattle.arr_strips.specs.Registers.{number_in, register_views}
+use Rattle.arr_strips.specs.Strips.{loaded}
+use Rattle.arr_lanes.specs.Lanes.{number}
+use Rattle.arr_machine.specs.Kept.{AllKept, OpKept, TypedKept, kept_from}
+use Rattle.arr_machine.specs.Shown.{Showing, seen}
+use Rattle.arr_machine.specs.Tasks.{TypedLanes}
+
+-- some positions of a block's walk, for lanes with room for so many numbers
+pub record IsStripOf (ops : List Op) (p c room : ℕ) : Type 0 where
+  pub block : is_block ops ≡ true
+  pub types : each_typed ops ≡ true
+  pub some : 1 ≤ c
+  pub within : c ≤ room
+  pub inside : p + c ≤ block_positions ops
+
+-- before operation k: the lanes of views hold the columns there, the first k operations have done the strip, and slots held
+-- `start` when the walk began
+pub record Standing (ops : List Op) (p c k : ℕ) (h : Columns) (start : ℕ → Option Slot) (lanes : List Buffer) (numbers : List ℤ) (slots : ℕ → Option Slot) : Type 0 where
+  pub row : (v : Strided) → loaded (register_views ops) v ≡ true → (i : ℕ) → i < c → number lanes (number_in (register_views ops) v) i ≡ ends (take k ops) h (p + i) v
+  pub kept : AllKept ops k (p + c) p h numbers
+  pub shown : Showing ops (seen (length ops) p c k) h start slots
+
+-- wherever a walk stood before operation j, it stands before operation k
+abbrev pub Advances : List Op → ℕ → ℕ → ℕ → ℕ → List Buffer → List ℤ → (ℕ → Option Slot) → List Buffer → List ℤ → (ℕ → Option Slot) → Type 0
+Advances ops p c j k lanes numbers slots lanes' numbers' slots' =
+    (h : Columns) (start : ℕ → Option Slot) → Standing ops p c j h start lanes numbers slots → Standing ops p c k h start lanes' numbers' slots'
+
+-- lanes and numbers have room and types for the operations of a block
+pub record IsReady (ops : List Op) (room : ℕ) (lanes : List Buffer) (numbers : List ℤ) : Type 0 where
+  pub typed : TypedLanes ops room lanes
+  pub long : length numbers ≡ scratch ops
+  pub kept : TypedKept ops numbers
+
+-- between two strips: all operations have done the positions below p, and none has seen the others
+pub record Resting (ops : List Op) (p : ℕ) (h : Columns) (start : ℕ → Option Slot) (numbers : List ℤ) (slots : ℕ → Option Slot) : Type 0 where
+  pub kept : (j : ℕ) (op : Op) → j < length ops → op ≡ get_or ops j op → OpKept p (kept_from ops j) op (ends (take j ops) h) numbers
+  pub shown : Showing ops (λ q. cond (nat_lt q p) (length ops) 0) h start slots

@@ -1,0 +1,126 @@
+//! The operations of a block, one after another, at one strip.
+ghost use Rattle.std.specs.Prelude.{ℕ, ℤ, ◌≡◌, ◌+◌, ◌<◌, List, Option, get_or, length};
+ghost use Rattle.arr_ops.specs.Memory.{Slot};
+ghost use Rattle.arr_ops.specs.declared.op.Op.{Op};
+ghost use Rattle.arr_store.specs.Slots.{slots_of};
+ghost use Rattle.arr_lanes.specs.Spares.{HasRoom};
+ghost use Rattle.arr_machine.specs.Shown.{SlotsMatch};
+ghost use Rattle.arr_machine.specs.Standing.{Advances, IsReady, IsStripOf};
+ghost use Rattle.arr_machine.specs.Tasks.{AreTasks, IsTask, Steady};
+
+use crate::folds::{fold_lane, scan_lane};
+use crate::task::Task;
+use arr_lanes::{Line, Spares, Strip, run_line};
+use arr_ops::Op;
+use arr_store::{Buffer, Run, Slots};
+
+/// An element-wise operation computes its lane.
+fn compute_lane(
+    _ops: &[Op],
+    _index: usize,
+    line: Line,
+    lanes: &mut [Buffer],
+    spares: &mut Spares,
+    _numbers: &[i128],
+    strip: Strip,
+)
+    requires strip { IsStripOf _ops.now strip.position strip.count strip.room }
+    requires there { _index < length _ops.now }
+    requires task { (op : Op) → op ≡ get_or _ops.now _index op → IsTask _ops.now strip.room lanes.old _index op (Task.Line line) }
+    requires ready { IsReady _ops.now strip.room lanes.old _numbers.now }
+    requires spares { HasRoom strip.room spares.old }
+    ensures stands { (slots : ℕ → Option Slot) → Advances _ops.now strip.position strip.count _index (_index + 1) lanes.old _numbers.now slots lanes.new _numbers.now slots }
+    ensures ready { IsReady _ops.now strip.room lanes.new _numbers.now }
+    ensures steady { Steady _ops.now strip.room lanes.old lanes.new }
+    ensures spares { HasRoom strip.room spares.new }
+{
+    run_line(line, lanes, spares, strip);
+}
+
+/// A SYNC puts the lane of its input into its slot.
+fn show_lane(
+    _ops: &[Op],
+    _index: usize,
+    slot: u32,
+    lane: u32,
+    lanes: &[Buffer],
+    slots: &mut Slots,
+    _numbers: &[i128],
+    strip: Strip,
+)
+    requires strip { IsStripOf _ops.now strip.position strip.count strip.room }
+    requires there { _index < length _ops.now }
+    requires task { (op : Op) → op ≡ get_or _ops.now _index op → IsTask _ops.now strip.room lanes.now _index op (Task.Show slot lane) }
+    requires ready { IsReady _ops.now strip.room lanes.now _numbers.now }
+    requires slots { SlotsMatch _ops.now (slots_of slots.old) }
+    ensures stands { Advances _ops.now strip.position strip.count _index (_index + 1) lanes.now _numbers.now (slots_of slots.old) lanes.now _numbers.now (slots_of slots.new) }
+    ensures slots { SlotsMatch _ops.now (slots_of slots.new) }
+{
+    let run = Run {
+        start: strip.position as u32,
+        stride: 1,
+        count: strip.count,
+    };
+    slots.put_run(slot, run, &lanes[lane as usize], 0);
+}
+
+/// The operation of a block with an index runs at a strip.
+fn run_task(
+    ops: &[Op],
+    index: usize,
+    task: Task,
+    lanes: &mut [Buffer],
+    spares: &mut Spares,
+    numbers: &mut [i128],
+    slots: &mut Slots,
+    strip: Strip,
+)
+    requires strip { IsStripOf ops.now strip.position strip.count strip.room }
+    requires there { index < length ops.now }
+    requires task { (op : Op) → op ≡ get_or ops.now index op → IsTask ops.now strip.room lanes.old index op task }
+    requires ready { IsReady ops.now strip.room lanes.old numbers.old }
+    requires spares { HasRoom strip.room spares.old }
+    requires slots { SlotsMatch ops.now (slots_of slots.old) }
+    ensures stands { Advances ops.now strip.position strip.count index (index + 1) lanes.old numbers.old (slots_of slots.old) lanes.new numbers.new (slots_of slots.new) }
+    ensures ready { IsReady ops.now strip.room lanes.new numbers.new }
+    ensures steady { Steady ops.now strip.room lanes.old lanes.new }
+    ensures spares { HasRoom strip.room spares.new }
+    ensures slots { SlotsMatch ops.now (slots_of slots.new) }
+{
+    match task {
+        Task::Line(line) => compute_lane(ops, index, line, lanes, spares, numbers, strip),
+        Task::Scan(along, dest) => {
+            scan_lane(ops, index, along, dest, lanes, spares, numbers, strip)
+        }
+        Task::Fold(along) => fold_lane(ops, index, along, lanes, numbers, strip),
+        Task::Show(slot, lane) => show_lane(ops, index, slot, lane, lanes, slots, numbers, strip),
+        Task::Nothing => {}
+    }
+}
+
+/// The operations of a block run at a strip of its positions, one after another: each computes its lane, folds into the numbers that the
+/// block keeps, or shows its input (docs/PLANS.md, "Running a block"). It takes no memory.
+pub fn run_tasks(
+    ops: &[Op],
+    tasks: &[Task],
+    lanes: &mut [Buffer],
+    spares: &mut Spares,
+    numbers: &mut [i128],
+    slots: &mut Slots,
+    strip: Strip,
+)
+    requires strip { IsStripOf ops.now strip.position strip.count strip.room }
+    requires tasks { AreTasks ops.now strip.room lanes.old tasks.now }
+    requires ready { IsReady ops.now strip.room lanes.old numbers.old }
+    requires spares { HasRoom strip.room spares.old }
+    requires slots { SlotsMatch ops.now (slots_of slots.old) }
+    ensures stands { Advances ops.now strip.position strip.count 0 (length ops.now) lanes.old numbers.old (slots_of slots.old) lanes.new numbers.new (slots_of slots.new) }
+    ensures ready { IsReady ops.now strip.room lanes.new numbers.new }
+    ensures steady { Steady ops.now strip.room lanes.old lanes.new }
+    ensures spares { HasRoom strip.room spares.new }
+    ensures slots { SlotsMatch ops.now (slots_of slots.new) }
+{
+    for (index, task) in tasks.iter().enumerate() {
+        run_task(ops, index, *task, lanes, spares, numbers, slots, strip);
+    }
+}

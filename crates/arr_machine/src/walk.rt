@@ -1,0 +1,138 @@
+//! The walk of a block, strip by strip.
+ghost use Rattle.std.specs.Prelude.{ℕ, ◌≡◌, ◌+◌, ◌*◌, ◌<◌, ◌≤◌, ◌^◌, Option, length, true};
+ghost use Rattle.std.specs.List.{AllByRecursion};
+ghost use Rattle.arr_ops.specs.Costs.{reads, total};
+ghost use Rattle.arr_ops.specs.Fits.{fits};
+ghost use Rattle.arr_ops.specs.Formed.{each_typed};
+ghost use Rattle.arr_ops.specs.Memory.{Memory, Slot};
+ghost use Rattle.arr_ops.specs.Traffic.{scratch};
+ghost use Rattle.arr_store.specs.Cells.{width_at};
+ghost use Rattle.arr_store.specs.Slots.{slots_of};
+ghost use Rattle.arr_store.specs.Stored.{cells};
+ghost use Rattle.arr_strips.specs.Blocks.{block_positions, is_block, stores};
+ghost use Rattle.arr_strips.specs.Strips.{outline};
+ghost use Rattle.arr_machine.specs.Kept.{TypedKept};
+ghost use Rattle.arr_machine.specs.Machines.{IsMachineOf, Walks};
+ghost use Rattle.arr_machine.specs.Ports.{IsThere};
+ghost use Rattle.arr_machine.specs.Shown.{SlotsMatch};
+ghost use Rattle.arr_machine.specs.Standing.{IsStripOf};
+
+use crate::port::{Port, load_ports, store_ports};
+use crate::run::run_tasks;
+use crate::task::Task;
+use arr_lanes::{Spares, Strip};
+use arr_ops::Op;
+use arr_store::{Buffer, Slots, Store};
+
+/// What a block takes to walk its positions in strips: a task for each operation, the views that a strip loads and stores, a lane for each
+/// view and each constant, and a spare list of each type; each of these has room for `room` numbers.
+#[derive(Drop)]
+pub struct Machine {
+    pub positions: u32,
+    pub room: usize,
+    pub tasks: Vec<Task>,
+    pub reads: Vec<Port>,
+    pub stores: Vec<Port>,
+    pub lanes: Vec<Buffer>,
+    pub spares: Spares,
+}
+
+impl Machine {
+    /// One strip: it loads the views that the block reads, runs the operations, and stores the views that a walk writes.
+    fn run_strip(
+        &mut self,
+        ops: &[Op],
+        numbers: &mut [i128],
+        store: &mut Store,
+        slots: &mut Slots,
+        strip: Strip,
+    )
+        requires machine { IsMachineOf ops.now self.old }
+        requires block { is_block ops.now ≡ true }
+        requires types { each_typed ops.now ≡ true }
+        requires few_reads { length (reads ops.now) ≤ 768 }
+        requires few_stores { length (stores ops.now) ≤ 768 }
+        requires reads { AllByRecursion (IsThere ops.now (cells store.old)) (reads ops.now) }
+        requires stores { AllByRecursion (IsThere ops.now (cells store.old)) (stores ops.now) }
+        requires long { length numbers.old ≡ scratch ops.now }
+        requires kept { TypedKept ops.now numbers.old }
+        requires slots { SlotsMatch ops.now (slots_of slots.old) }
+        requires strip { IsStripOf ops.now strip.position strip.count strip.room }
+        requires room { strip.room ≡ self.old.room }
+        requires loads { store.old.loads < 2 ^ 61 + 2 ^ 40 }
+        requires saves { store.old.stores < 2 ^ 61 + 2 ^ 40 }
+        ensures walks { (m : Memory) (start : ℕ → Option Slot) → fits m ops.now ≡ true → Walks ops.now m start strip.position (cells store.old) numbers.old (slots_of slots.old)
+            → Walks ops.now m start (strip.position + strip.count) (cells store.new) numbers.new (slots_of slots.new) }
+        ensures machine { IsMachineOf ops.now self.new }
+        ensures same { (b : ℕ) → outline (cells store.new b) ≡ outline (cells store.old b) }
+        ensures long { length numbers.new ≡ length numbers.old }
+        ensures kept { TypedKept ops.now numbers.new }
+        ensures slots { SlotsMatch ops.now (slots_of slots.new) }
+        ensures made { store.new.made ≡ store.old.made }
+        ensures room { self.new.room ≡ self.old.room }
+        ensures loads { store.new.loads ≡ store.old.loads + strip.count * total (λ v. width_at (cells store.old v.base)) (reads ops.now) }
+        ensures saves { store.new.stores ≡ store.old.stores + strip.count * total (λ v. width_at (cells store.old v.base)) (stores ops.now) }
+    {
+        load_ports(
+            ops,
+            self.reads.as_slice(),
+            self.lanes.as_mut_slice(),
+            store,
+            strip,
+        );
+        run_tasks(
+            ops,
+            self.tasks.as_slice(),
+            self.lanes.as_mut_slice(),
+            &mut self.spares,
+            numbers,
+            slots,
+            strip,
+        );
+        store_ports(
+            ops,
+            self.stores.as_slice(),
+            self.lanes.as_slice(),
+            store,
+            strip,
+        );
+    }
+
+    /// Walks the positions of a block whose bases are open, in strips (docs/PLANS.md, "Running a block"). It takes no memory.
+    pub fn walk(&mut self, ops: &[Op], numbers: &mut [i128], store: &mut Store, slots: &mut Slots)
+        requires machine { IsMachineOf ops.now self.old }
+        requires block { is_block ops.now ≡ true }
+        requires types { each_typed ops.now ≡ true }
+        requires few_reads { length (reads ops.now) ≤ 768 }
+        requires few_stores { length (stores ops.now) ≤ 768 }
+        requires reads { AllByRecursion (IsThere ops.now (cells store.old)) (reads ops.now) }
+        requires stores { AllByRecursion (IsThere ops.now (cells store.old)) (stores ops.now) }
+        requires long { length numbers.old ≡ scratch ops.now }
+        requires kept { TypedKept ops.now numbers.old }
+        requires slots { SlotsMatch ops.now (slots_of slots.old) }
+        requires loads { store.old.loads < 2 ^ 61 }
+        requires saves { store.old.stores < 2 ^ 61 }
+        ensures walks { (m : Memory) (start : ℕ → Option Slot) → fits m ops.now ≡ true → Walks ops.now m start 0 (cells store.old) numbers.old (slots_of slots.old)
+            → Walks ops.now m start (block_positions ops.now) (cells store.new) numbers.new (slots_of slots.new) }
+        ensures machine { IsMachineOf ops.now self.new }
+        ensures same { (b : ℕ) → outline (cells store.new b) ≡ outline (cells store.old b) }
+        ensures long { length numbers.new ≡ length numbers.old }
+        ensures kept { TypedKept ops.now numbers.new }
+        ensures slots { SlotsMatch ops.now (slots_of slots.new) }
+        ensures made { store.new.made ≡ store.old.made }
+        ensures loads { store.new.loads ≡ store.old.loads + block_positions ops.now * total (λ v. width_at (cells store.old v.base)) (reads ops.now) }
+        ensures saves { store.new.stores ≡ store.old.stores + block_positions ops.now * total (λ v. width_at (cells store.old v.base)) (stores ops.now) }
+    {
+        let positions = self.positions as usize;
+        let mut at = 0;
+        while at < positions {
+            let strip = Strip {
+                position: at as u64,
+                count: self.room.min(positions - at),
+                room: self.room,
+            };
+            self.run_strip(ops, numbers, store, slots, strip);
+            at += strip.count;
+        }
+    }
+}
