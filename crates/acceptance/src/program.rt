@@ -103,7 +103,14 @@ fn each_writing_fault_cuts_a_certificate(rt: HostRuntime) -> Result<(), Fail> {
     let text = CERTIFIED.as_bytes();
     // A byte at each call.
     for fails in 1..=text.len() {
-        let ran = run(alloc, &["run", "--cert"], PRINTED.as_bytes(), 0, 1, fails as u64)?;
+        let ran = run(
+            alloc,
+            &["run", "--cert"],
+            PRINTED.as_bytes(),
+            0,
+            1,
+            fails as u64,
+        )?;
         assert_eq!(rt; ran.status, 4, "write {fails}");
         assert_eq!(rt; ran.written.as_slice(), &text[..fails - 1], "write {fails}");
     }
