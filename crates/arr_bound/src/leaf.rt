@@ -18,7 +18,6 @@ ghost use Rattle.arr_bound.specs.Worth.{in_rows, IsLargeLeaf, Joined, LeafBelow,
 use crate::NoMemory;
 use crate::classes::{Class, Views, is_operand, writes};
 use crate::picks::picks_of;
-use crate::rows::apart_rows;
 use arr_law::{Charge, Charges, OpList};
 use arr_ops::Op;
 use arr_sets::MOST;
@@ -144,6 +143,5 @@ pub fn charges(alloc: Global, views: &Views, state: &State) -> Result<(u64, Char
     requires plain { (f : ℕ) → known state.now (Apart f f) ≡ false }
     ensures { IfOk result (λ (worth, groups). IsLargeLeaf (problem_of views.now) (known state.now) worth groups) }
 {
-    let apart = apart_rows(alloc, state, views.ops.len() as u32)?;
-    leaf_by(alloc, views, apart.as_slice())
+    leaf_by(alloc, views, state.apart_rows())
 }

@@ -14,7 +14,6 @@
 mod classes;
 mod leaf;
 mod picks;
-mod rows;
 mod sets;
 
 pub use classes::Views;

@@ -15,3 +15,4 @@ pub mod Clashes
 pub mod Openings
 pub mod Sound
 pub mod Saturates
+pub mod Aparts

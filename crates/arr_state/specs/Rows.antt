@@ -1,5 +1,5 @@
 -- Facts as rows of words: for each kind and each operation a bit for each other operation.
-use Rattle.std.specs.Prelude.{◌≡◌, ℕ, zero, suc, ◌+◌, ◌-◌, ◌*◌, ◌/◌, ◌%◌, ◌^◌, ◌<◌, ◌≤◌, Bool, cond, List, length, get_or, slice_set, bit_and, bit_or, bit_xor}
+use Rattle.std.specs.Prelude.{◌≡◌, ◌==◌, ℕ, zero, suc, ◌+◌, ◌-◌, ◌*◌, ◌/◌, ◌%◌, ◌^◌, ◌<◌, ◌≤◌, Bool, cond, List, length, get_or, slice_set, bit_and, bit_or, bit_xor}
 use Rattle.std.specs.Int.{bit_at}
 use Rattle.arr_law.specs.declared.fact.Fact.{Fact}
 use Rattle.arr_law.specs.declared.fact.Fact.TheVariants.{Same, Apart, Before}
@@ -54,3 +54,8 @@ pub record AreRowed (n : ℕ) (test : ℕ → ℕ → Bool) (rows : List ℕ) (f
 -- the bits of the first two that the third has not
 abbrev pub sifted : ℕ → ℕ → ℕ → ℕ
 sifted a b c = bit_and (bit_and a b) (bit_xor (bit_and a b) c)
+
+-- rows of n operations, one behind another, say which two are apart
+abbrev pub AreApart : ℕ → Facts → List ℕ → Type 0
+AreApart n facts rows =
+    (f g : ℕ) → f ≤ n → g ≤ n → (bit_at (get_or rows (f * (n / 64 + 1) + g / 64) 0) (g % 64) == 1) ≡ facts (Apart f g)

@@ -1,16 +1,18 @@
 //! What is known of where the operations of a list stand.
-ghost use Rattle.std.specs.Prelude.{◌≡◌, ◌≤◌, ◌++◌, ◌∷◌, [], cond, false, IfOk, IsTrue, OnErr, OnOk, length, take};
+ghost use Rattle.std.specs.Prelude.{◌≡◌, ◌≤◌, ◌+◌, ◌*◌, ◌/◌, ◌++◌, ◌∷◌, [], cond, false, IfOk, IsTrue, OnErr, OnOk, length, take};
 ghost use Rattle.arr_law.specs.Problem.{is_pair};
 ghost use Rattle.arr_law.specs.ProblemOf.{problem_of};
 ghost use Rattle.arr_law.specs.declared.fact.Fact.{Fact};
 ghost use Rattle.arr_law.specs.declared.fact.Fact.TheVariants.{Apart, Same};
 ghost use Rattle.arr_state.specs.Known.{AreOps};
+ghost use Rattle.arr_state.specs.Rows.{AreApart};
 ghost use Rattle.arr_state.specs.States.{Saturated, known};
 
 use crate::NoMemory;
-use crate::known::{Known, add, go_back, is_known};
+use crate::known::{Known, add, count_of, go_back, is_known};
 use crate::opening::{opened, ops_of, roots_of};
 use crate::outcome::Outcome;
+use crate::rows::{APART, row_start};
 use crate::saturation::saturate;
 use arr_deps::Graph;
 use arr_law::{Fact, Records};
@@ -58,6 +60,18 @@ impl State {
         ensures { result ≡ known self.now fact }
     {
         is_known(self.ops.as_slice(), &self.held, fact)
+    }
+
+    /// Which operations are known to stand apart, as rows of words one behind another: with n the length of the list, bit g % 64 of the word
+    /// f * (n / 64 + 1) + g / 64 is set exactly where that is known of operations f and g (docs/CERTIFICATES.md, "Facts"). It takes no memory.
+    pub fn apart_rows(&self) -> &[u64]
+        ensures long { length result.now ≡ (length self.now.list + 1) * (length self.now.list / 64 + 1) }
+        ensures told { AreApart (length self.now.list) (known self.now) result.now }
+    {
+        let size = row_start(count_of(self.ops.as_slice()), APART, 0);
+        let (_, behind) = self.held.rows.as_slice().split_at(size);
+        let (rows, _) = behind.split_at(size);
+        rows
     }
 
     /// How many decisions and facts of steps there are, for `undo_to`. It takes no memory.
