@@ -13,6 +13,8 @@ In README.md, docs/LANGUAGE.md and docs/CERTIFICATES.md are run:
   prints;
 - each row of a table whose last three columns are headed `command`, `status` and `writes`: the command is one for bash in the top
   folder, and must end with that status; each further code span is one line that it writes to its standard output.
+
+What README.md and docs/*.md name in the sources must stand where they say (named.py).
 """
 import os
 import re
@@ -21,6 +23,7 @@ import sys
 import tempfile
 
 import cases
+import named
 import report
 
 TOP = os.path.dirname(os.path.dirname(os.path.abspath(__file__)))
@@ -117,6 +120,12 @@ def judge_page(page):
         if kind == "console":
             judge_commands(where, text)
         script = text if kind == "bohrium" else None
+
+
+def judge_names():
+    """What the pages name stands in the files that they name."""
+    for page in named.judged_pages():
+        judge(f"{page.path}: names", "", "".join(fault + "\n" for fault in page.faults))
 
 
 def judge_examples():
@@ -223,6 +232,7 @@ def main():
     judge_examples()
     judge_cases()
     judge_picture()
+    judge_names()
     for page in PAGES:
         judge_page(page)
     print(f"{passed} passed, {failed} failed")
