@@ -4,7 +4,7 @@
 examples/NAME.bh is run, and must print examples/NAME.out. The words are `run`, or those of its first line where this is a comment
 `# ./bohrium WORDS < examples/NAME.bh`.
 
-In README.md, docs/LANGUAGE.md and docs/CERTIFICATES.md are run:
+In README.md, docs/LANGUAGE.md, docs/PLANS.md and docs/CERTIFICATES.md are run:
 - a fenced block `bohrium`, a script; the next fenced block, `output`, is all that it prints. The status must be 1 where that is a
   refusal, else 0;
 - a fenced block `console`: each line that begins with `$ ` is a command for bash in the top folder, and the lines up to the next
@@ -28,7 +28,7 @@ import report
 
 TOP = os.path.dirname(os.path.dirname(os.path.abspath(__file__)))
 PROGRAM = os.path.join(TOP, "crates", "bohrium", "out", "bohrium")
-PAGES = ["README.md", os.path.join("docs", "LANGUAGE.md"), os.path.join("docs", "CERTIFICATES.md")]
+PAGES = ["README.md", *(os.path.join("docs", name) for name in ("LANGUAGE.md", "PLANS.md", "CERTIFICATES.md"))]
 USAGE = "usage: bohrium run [--plan|--cert] [--fuse=linear|greedy|best] [--budget=N] | bohrium check FILE | bohrium demo N\n"
 # The refusals that the grammar gives.
 OF_GRAMMAR = {"TooLong", "BadByte", "NumberTooWide", "NameTooLong", "StatementTooLong", "TooDeep", "Unexpected"}
