@@ -18,6 +18,7 @@ What README.md and docs/*.md name in the sources must stand where they say (name
 """
 import os
 import re
+import shutil
 import subprocess
 import sys
 import tempfile
@@ -191,6 +192,41 @@ def judge_picture():
         judge("docs/plan.svg", drawn.read(), report.picture(report.read_listing(listing.read().split("\n"))[0]) + "\n")
 
 
+# Counts the texts of the pictures of a page that stand in no block, or one upon the other, where it is opened.
+MEASURE = """<script>
+const inside = (t, b) => t.left >= b.left && t.right <= b.right && t.top >= b.top && t.bottom <= b.bottom;
+const meet = (a, b) => a.left < b.right && b.left < a.right && a.top + 2 < b.bottom && b.top + 2 < a.bottom;
+let texts = 0, outside = 0, meeting = 0;
+for (const svg of document.querySelectorAll("svg")) {
+    const boxes = [...svg.querySelectorAll(".box")].map(box => box.getBoundingClientRect());
+    const places = [...svg.querySelectorAll("text")].map(text => text.getBoundingClientRect());
+    texts += places.length;
+    outside += places.filter(text => !boxes.some(box => inside(text, box))).length;
+    meeting += places.filter((text, at) => places.some((other, beside) => at < beside && meet(text, other))).length;
+}
+document.title = `${document.querySelectorAll("svg").length} pictures, ${texts} texts, ${outside} outside, ${meeting} upon others`;
+</script>"""
+
+
+def judge_opened_page():
+    """Where there is a browser, it opens the page of tools/report.py, and all that its pictures say stands in the blocks, side by side."""
+    browser = next(filter(None, map(shutil.which, ("chromium", "chromium-browser", "google-chrome"))), None)
+    if not browser:
+        print("there is no chromium: the page of tools/report.py is not opened")
+        return
+    for name in ("rod", "fused"):
+        with open(os.path.join(TOP, "examples", f"{name}.out")) as listing, tempfile.TemporaryDirectory() as folder:
+            flushes = report.read_listing(listing.read().split("\n"))
+            page = os.path.join(folder, "page.html")
+            with open(page, "w", encoding="utf-8") as file:
+                file.write(report.page_of(flushes).replace("</body>", MEASURE + "</body>"))
+            done = subprocess.run([browser, "--headless", "--no-sandbox", "--disable-gpu", f"--user-data-dir={folder}/profile", "--dump-dom", f"file://{page}"],
+                                  capture_output=True, timeout=120)
+            texts = sum(len(flush.ops) * 2 + len(flush.blocks) * 3 for flush in flushes)
+            wanted = f"{len(flushes)} pictures, {texts} texts, 0 outside, 0 upon others"
+            judge(f"the page of examples/{name}.out", wanted, (re.findall("<title>([^<]*pictures[^<]*)</title>", done.stdout.decode()) or ["no page"])[0])
+
+
 def judge_bounds():
     """The units of a search lie between two numbers."""
     for words, script, before, behind, least, most in cases.UNITS:
@@ -232,6 +268,7 @@ def main():
     judge_examples()
     judge_cases()
     judge_picture()
+    judge_opened_page()
     judge_names()
     for page in PAGES:
         judge_page(page)
