@@ -3,8 +3,8 @@
 
 Read are README.md and docs/*.md:
 - a table with the columns `clause` and `file`: each code span of the first is a function, a clause of a function (`serve.served`,
-  `Machine::walk.walks`), a definition or one of its fields or cases (`IsWhole.arrays`), and stands in the file of its row, a path from the
-  top of the repository;
+  `Machine::walk.walks`), a definition or one of its fields or cases (`IsWhole.arrays`), and stands in a file of its row, to which
+  there are links;
 - a table with the columns `definition` and `file`: the first word of each code span stands in one of the files of its row. A file that
   begins with `specs/` or `src/` is one of the crate in the heading above;
 - the table with the columns `crate`, `stands on` and `promises`: the crates of the repository, and on which others each stands;
@@ -128,7 +128,7 @@ class Page:
 
     def judge_row(self, number, heads, row):
         if heads[-2:] == ["clause", "file"]:
-            self.judge_clauses(number, row[-2], [f"crates/{path}" for path in re.findall(r"[\w/.-]+\.(?:rt|antt)", row[-1])])
+            self.judge_clauses(number, row[-2], re.findall(r"\]\(([^)]*)\)", row[-1]))
         elif heads[-2:] == ["definition", "file"]:
             self.judge_definitions(number, row[-2], [self.file_of(path) for path in re.findall(r"[\w/.-]+\.(?:rt|antt)", row[-1])])
         elif heads == ["crate", "stands on", "promises"]:
