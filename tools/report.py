@@ -214,7 +214,7 @@ def place_columns(columns):
         for column in row:
             column.top, column.row, column.floor = top, number, floor
         top = floor + GAP
-    return max([column.left + column.width for column in columns], default=LEFT) + GAP, top
+    return max([column.left + column.width for column in columns], default=LEFT) + GAP, top - GAP + PAD
 
 
 def arrow_inside(column, f, g):
@@ -245,11 +245,16 @@ def way_in(column, g, gap, side):
     return [(across, gap), (across, y), (column.left - 2, y)]
 
 
+def is_beside(column, to):
+    """Whether an arrow goes straight from one block to the other."""
+    return to.number == column.number + 1 and to.row == column.row and column.columns == to.columns == 1
+
+
 def arrow(column, f, to, g):
     """From one operation to another of a later block that depends on it: to the block beside it, or through the gaps between rows, and
     along the left edge where rows lie between."""
     title, side = f"<title>{f} before {g}</title>", 4 * (column.number % 7)
-    if to.number == column.number + 1 and to.row == column.row and column.columns == to.columns == 1:
+    if is_beside(column, to):
         right, y, left, to_y = column.left + column.width, column.line_at(f), to.left, to.line_at(g)
         return f'<path class="arrow" marker-end="url(#tip)" d="M{right:.0f} {y} C{right + 26:.0f} {y} {left - 26:.0f} {to_y} {left - 2:.0f} {to_y}">{title}</path>'
     below = column.floor + 8 + side
@@ -268,6 +273,8 @@ def picture(flush):
     of = {f: column for column in columns for f in column.block}
     pairs = needed_pairs(problem)
     arrows = [arrow(of[f], f, of[g], g) for f, g in pairs if of[f] is not of[g]]
+    if any(of[f].row == columns[-1].row and of[f] is not of[g] and not is_beside(of[f], of[g]) for f, g in pairs):
+        tall += GAP - PAD
     inner = [arrow_inside(of[f], f, g) for f, g in pairs if of[f] is of[g]]
     return (f'<svg xmlns="http://www.w3.org/2000/svg" width="{wide:.0f}" height="{tall}" viewBox="0 0 {wide:.0f} {tall}">'
             f'<style>{STYLE}</style><defs><marker id="tip" viewBox="0 0 8 8" refX="7" refY="4" markerWidth="7" markerHeight="7" orient="auto">'
