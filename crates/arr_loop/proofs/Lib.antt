@@ -12,3 +12,4 @@ pub mod Shown
 pub mod Summed
 pub mod Walked
 pub mod Bounds
+pub mod Planned

@@ -21,11 +21,13 @@ mod closing;
 mod computing;
 mod laws;
 mod opening;
+mod plans;
 mod serial;
 mod walking;
 
 pub use laws::{buffers_made, serial_blocks};
 pub use opening::open;
+pub use plans::run_plan;
 pub use serial::run_serial;
 pub use walking::run;
 
