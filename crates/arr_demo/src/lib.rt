@@ -1,0 +1,10 @@
+//! The script that the demo makes of a number (docs/DEMO.md).
+//!
+//! **The promise.** [`demo_script`] writes the script that the definition of the same name, in specs/Script.antt, gives of the number, or answers
+//! want of memory.
+#![tactic(auto)]
+
+mod part;
+mod script;
+
+pub use script::demo_script;
