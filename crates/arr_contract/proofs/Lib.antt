@@ -6,3 +6,4 @@ pub mod Makings
 pub mod Walked
 pub mod Tasking
 pub mod Parallel
+pub mod Sums

@@ -1,6 +1,8 @@
 //! A block that is ready to run.
 ghost use Rattle.std.specs.Prelude.{ℕ, ◌≡◌, ◌+◌, ◌*◌, ◌<◌, ◌≤◌, ◌^◌, IfOk, IsTrue, Option, false, get_or, length, pos, set, true};
 ghost use Rattle.std.specs.List.{AllByRecursion, list_any};
+ghost use Rattle.arr_num.specs.Kinds.{is_reduction};
+ghost use Rattle.arr_ops.specs.declared.op.Op.{Op};
 ghost use Rattle.arr_ops.specs.Costs.{reads, total, writes};
 ghost use Rattle.arr_ops.specs.Fits.{fits};
 ghost use Rattle.arr_ops.specs.Memory.{Memory, Slot};
@@ -9,7 +11,7 @@ ghost use Rattle.arr_store.specs.Slots.{slots_of};
 ghost use Rattle.arr_store.specs.Stored.{cells};
 ghost use Rattle.arr_strips.specs.Blocks.{block_positions, stores};
 ghost use Rattle.arr_strips.specs.Strips.{outline};
-ghost use Rattle.arr_machine.specs.Kept.{StartsFolds, TypedKept};
+ghost use Rattle.arr_machine.specs.Kept.{StartsFolds, TypedKept, kept_from};
 ghost use Rattle.arr_machine.specs.Machines.{Walks};
 ghost use Rattle.arr_machine.specs.Ports.{IsThere};
 ghost use Rattle.arr_machine.specs.Shown.{SlotsMatch};
@@ -24,7 +26,7 @@ use crate::contracted::contracted;
 use crate::making::machine_for;
 use crate::scratch::{scratch, some_serial};
 use arr_cost::{block_ops, block_reads, block_views, block_writes};
-use arr_machine::{Machine, begin_folds};
+use arr_machine::{Machine, Task, begin_folds};
 use arr_ops::Op;
 use arr_sets::MOST;
 use arr_store::{Slots, Store};
@@ -148,6 +150,27 @@ impl Prepared {
         self.numbers[at as usize]
     }
 
+    /// The numbers that the block keeps, in order (docs/PLANS.md, "Running a block"). It takes no memory.
+    pub fn numbers(&self) -> &[i128]
+        ensures { result.now ≡ self.now.numbers }
+    {
+        self.numbers.as_slice()
+    }
+
+    /// Where the numbers begin that the block keeps for a reduction, which is given by its place in the block, counted from 0; the block has
+    /// no serial operation (docs/PLANS.md, "Running a block"). It takes no memory.
+    pub fn sums_from(&self, place: usize) -> usize
+        requires parallel { list_any serial self.now.ops ≡ false }
+        requires there { place < length self.now.ops }
+        requires reduction { (op : Op) → op ≡ get_or self.now.ops place op → is_reduction op.code ≡ true }
+        ensures { result ≡ kept_from self.now.ops place }
+    {
+        match self.machine.tasks[place] {
+            Task::Fold(along) => along.kept,
+            Task::Line(_) | Task::Scan(_, _) | Task::Show(_, _) | Task::Nothing => unreachable!(),
+        }
+    }
+
     /// Changes the number kept at a place, counted from 0; nothing else changes (docs/PLANS.md, "Running a block"). It takes no memory.
     #[inline]
     pub fn set_number(&mut self, at: u64, value: i128)
@@ -160,6 +183,8 @@ impl Prepared {
     /// Sets the numbers that the block keeps to where its folds begin (docs/PLANS.md, "Running a block"). It takes no memory.
     pub fn begin(&mut self)
         requires { list_any serial self.old.ops ≡ false }
+        ensures block { IsTrue (may_share_block self.old.ops) }
+        ensures few { length self.old.ops ≤ MOST }
         ensures ops { self.new.ops ≡ self.old.ops }
         ensures long { length self.new.numbers ≡ length self.old.numbers }
         ensures kept { TypedKept self.old.ops self.new.numbers }

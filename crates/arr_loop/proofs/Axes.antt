@@ -1,10 +1,10 @@
 -- The results of scans and reductions, number by number.
-use Rattle.std.proofs.Common.{◌≡◌, ℕ, ◌+◌, ◌-◌, ◌*◌, ◌/◌, ◌%◌, ◌<◌, ◌≤◌, suc, zero, ℤ, pos, List, [], ◌∷◌, ◌++◌, Bool, true, false, cond, not, ◌||◌, ◌&&◌, add-one, Option, Some, None, length, get_or, map, take, refl, ap, ap₂, sym, subst, ◌∙◌, arith}
+use Rattle.std.proofs.Common.{◌≡◌, ℕ, ◌+◌, ◌-◌, ◌*◌, ◌/◌, ◌%◌, ◌<◌, ◌≤◌, suc, zero, ℤ, pos, List, [], ◌∷◌, ◌++◌, true, false, cond, not, ◌||◌, add-one, Option, Some, None, length, get_or, map, take, refl, ap, ap₂, sym, subst, ◌∙◌, arith}
 use Rattle.std.proofs.Math.Nat.{div-add-mod, div-lt_iff_lt-mul, mod-eq_of_lt, mod-lt, mul_assoc, mul-le-mul_right, le-mul_of_pos_right}
-use Rattle.std.specs.Prelude.{◌==◌, is_none, is_some, nat_lt}
-use Rattle.std.specs.List.{AllByRecursion, list_all, range_with_len}
+use Rattle.std.specs.Prelude.{◌==◌}
+use Rattle.std.specs.List.{AllByRecursion, range_with_len}
 use Rattle.std.specs.Option.{option_to_list}
-use Rattle.std.proofs.lemmas.Bool.{eq-eqb, false≢true, ltb-true, ne_eqb, true≢false}
+use Rattle.std.proofs.lemmas.Bool.{eq-eqb, false≢true, ne_eqb, true≢false}
 use Rattle.std.proofs.lemmas.Nat.{mul-le}
 use Rattle.std.proofs.lemmas.List.FromFn.{get_or-map-range_with_len}
 use Rattle.arr_num.specs.declared.elem.Elem.{Elem}
@@ -14,19 +14,17 @@ use Rattle.arr_num.specs.Numbers.{fold_start, in_type, value, width}
 use Rattle.arr_view.specs.Strided.{Strided}
 use Rattle.arr_view.specs.Views.{elements, identical, is_view, positions}
 use Rattle.arr_ops.specs.declared.op.Op.{Op}
-use Rattle.arr_ops.specs.declared.op.Operand.{Operand}
-use Rattle.arr_ops.specs.declared.op.Operand.TheVariants.{Array, Number}
+use Rattle.arr_ops.specs.declared.op.Operand.TheVariants.{Array}
 use Rattle.arr_ops.specs.Costs.{distinct}
 use Rattle.arr_ops.specs.Fits.{meets_need, op_fits}
-use Rattle.arr_ops.specs.Formed.{along_axis, dropped_axis, is_array, operands_kept, same_elem, same_shape, well_formed}
+use Rattle.arr_ops.specs.Formed.{well_formed}
 use Rattle.arr_ops.specs.Memory.{Memory, computed, lengths_of, or_zero, out_lengths, read, without_slots}
-use Rattle.arr_ops.specs.Ops.{array_of, inputs, outputs, view_of}
+use Rattle.arr_ops.specs.Ops.{array_of, inputs, view_of}
 use Rattle.arr_ops.specs.Traffic.{axis_length}
 use Rattle.arr_ops.proofs.Lengths.{positions_at}
 use Rattle.arr_ops.proofs.Parts.{length-elements}
 use Rattle.arr_perform.proofs.Moving.{few_positions}
-use Rattle.arr_ops.proofs.Spots.{Plain, all_left, all_right, none_from, operands_of, views_of}
-use Rattle.arr_ops.proofs.Tests.{both_left, both_right}
+use Rattle.arr_ops.proofs.Spots.{Plain, all_left, operands_of}
 use Rattle.arr_ops.proofs.Typed.{Computes, computed_in, get_in}
 use Rattle.arr_perform.specs.Performed.{lie_inside}
 use Rattle.arr_perform.proofs.Operands.{input_need, inputs_met}
@@ -39,7 +37,7 @@ use Rattle.arr_strips.proofs.Folds.{folded_at, spot_of, upto_same}
 use Rattle.arr_strips.proofs.Sorts.{Filling, Reducing, sorts}
 use Rattle.arr_strips.proofs.Values.{Columnar, Folding, HeldAll, get_or-read, length-read}
 use Rattle.arr_machine.specs.Kept.{inner_of}
-use Rattle.arr_machine.proofs.Axes.{axis_inside_it, axis_kept, input_view, second_kept, some_at, view_kept}
+use Rattle.arr_machine.proofs.Axes.{axis_inside_it, axis_kept, input_view, second_kept, some_at}
 use Rattle.arr_loop.specs.Numbers.{loads_each, row_at}
 use Rattle.arr_loop.proofs.Elements.{width_met}
 

@@ -6,3 +6,10 @@ pub mod Moves
 pub mod Elements
 pub mod Axes
 pub mod Writing
+pub mod Dropping
+pub mod There
+pub mod Shown
+pub mod Summed
+pub mod Walked
+pub mod Bounds
+pub mod Planned

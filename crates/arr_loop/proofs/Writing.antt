@@ -12,12 +12,11 @@ use Rattle.arr_view.specs.Views.{elements, has, identical, positions}
 use Rattle.arr_ops.specs.declared.op.Op.{Op}
 use Rattle.arr_ops.specs.Costs.{distinct, elem_of, reads, total, weight, writes}
 use Rattle.arr_ops.specs.Fits.{Need, fits, meets_need, needs, op_fits}
-use Rattle.arr_ops.specs.Formed.{each_typed, same_types, typed}
+use Rattle.arr_ops.specs.Formed.{typed}
 use Rattle.arr_ops.specs.Memory.{Becomes, Cell, Memory, Writes, changed, computed, eager, lengths_of, or_zero, out_lengths, step, without_slots}
 use Rattle.arr_ops.specs.Ops.{creates, freed, freed_by, inputs, outputs, serial, view_of}
 use Rattle.arr_ops.specs.Traffic.{axis_length, kept_for, out_positions, scratch}
 use Rattle.arr_ops.proofs.Lengths.{positions_at}
-use Rattle.arr_ops.proofs.Pairs.{All_weaker}
 use Rattle.arr_ops.proofs.Spots.{all_left, all_mapped, all_right, computes_of, operands_of}
 use Rattle.arr_ops.proofs.Tests.{all_of, both_left, test_all}
 use Rattle.arr_ops.proofs.Typed.{computed_in}

@@ -1,5 +1,5 @@
 -- What is promised of the blocks of plans.
-use Rattle.std.specs.Prelude.{ℕ, ◌≡◌, true, false, List, ◌∷◌, ◌++◌, IsTrue, length, not}
+use Rattle.std.specs.Prelude.{ℕ, ◌≡◌, true, false, List, ◌∷◌, ◌++◌, IsTrue, not}
 use Rattle.std.specs.List.{AllByRecursion, filter, list_any}
 use Rattle.arr_view.specs.Strided.{Strided}
 use Rattle.arr_view.specs.Views.{identical}
@@ -8,11 +8,11 @@ use Rattle.arr_ops.specs.Costs.{distinct, reads, total, writes}
 use Rattle.arr_ops.specs.Memory.{Memory, eager, step}
 use Rattle.arr_ops.specs.Ops.{creates, freed_by, inputs, is_free, outputs, serial}
 use Rattle.arr_ops.specs.Formed.{is_formed}
-use Rattle.arr_ops.specs.Plans.{is_legal, numbered, ops_of}
+use Rattle.arr_ops.specs.Plans.{is_legal}
 use Rattle.arr_ops.specs.Traffic.{buffers}
 use Rattle.arr_strips.specs.Columns.{dropped}
 use Rattle.arr_contract.specs.Prepared.{may_share_block}
-use Rattle.arr_loop.specs.Opened.{kept_bases}
+use Rattle.arr_loop.specs.Opened.{buffers_for}
 
 -- One operation among FREEs, which is serial: the block creates no base, reads its inputs and writes its output, shows nothing, and leaves
 -- what the operation leaves, without the bases that the block frees.
@@ -36,4 +36,4 @@ SerialBlocks = (ops : List Op) → IsTrue (may_share_block ops) → IsTrue (list
 abbrev pub BuffersMade : Type 0
 BuffersMade =
     (list : List Op) (plan : List (List ℕ)) → IsTrue (is_formed list) → IsTrue (is_legal list plan)
-    → total (λ block. length (kept_bases (ops_of (numbered list) block) (ops_of (numbered list) block))) plan ≡ buffers list plan
+    → total (buffers_for list) plan ≡ buffers list plan

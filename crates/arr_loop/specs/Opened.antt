@@ -5,6 +5,7 @@ use Rattle.arr_view.specs.Strided.{Strided}
 use Rattle.arr_ops.specs.declared.op.Op.{Op}
 use Rattle.arr_ops.specs.Memory.{Cell}
 use Rattle.arr_ops.specs.Ops.{creates, freed_by, outputs}
+use Rattle.arr_ops.specs.Plans.{numbered, ops_of}
 use Rattle.arr_ops.specs.Traffic.{created}
 use Rattle.arr_store.specs.Stored.{Stored, cells}
 use Rattle.arr_strips.specs.Columns.{opening}
@@ -20,6 +21,10 @@ opened_for ops some f b = cond (freed_by ops b) (f b) (opening some b (f b))
 -- the bases that some operations of a block create and that the block does not free
 abbrev pub kept_bases : List Op → List Op → List ℕ
 kept_bases ops some = filter (λ b. not (freed_by ops b)) (created some)
+
+-- how many buffers a block of a list needs
+abbrev pub buffers_for : List Op → List ℕ → ℕ
+buffers_for list block = length (kept_bases (ops_of (numbered list) block) (ops_of (numbered list) block))
 
 -- the bases before a block was opened: those that it creates were not there
 abbrev pub unopened : List Op → (ℕ → Option Cell) → ℕ → Option Cell

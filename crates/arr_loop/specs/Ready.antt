@@ -1,5 +1,5 @@
 -- From which stores and slots a block may run.
-use Rattle.std.specs.Prelude.{◌≡◌, true, List}
+use Rattle.std.specs.Prelude.{◌≡◌, ℕ, true, List, Option}
 use Rattle.std.specs.List.{list_all}
 use Rattle.std.specs.Option.{option_to_list}
 use Rattle.arr_ops.specs.declared.op.Op.{Op}
@@ -14,9 +14,13 @@ use Rattle.arr_loop.specs.Opened.{opened_for, unopened}
 abbrev pub before_open : List Op → Stored → List Slot → Memory
 before_open ops store slots = record { bases = unopened ops (cells store); slots = slots_of slots }
 
+-- each slot of the operations is there, as its operation shows it
+abbrev pub AreShown : (ℕ → Option Slot) → List Op → Type 0
+AreShown slots ops = list_all (λ (op : Op). list_all (λ s. shows op (slots s)) (option_to_list op.slot)) ops ≡ true
+
 -- The block was opened: the memory before fits its operations, the bases that it creates and does not free hold zeros, those that it
 -- creates and frees are not there, and its slots are there.
 pub record IsOpen (ops : List Op) (store : Stored) (slots : List Slot) : Type 0 where
   pub fit : fits (without_slots (before_open ops store slots)) ops ≡ true
   pub opened : cells store ≡ opened_for ops ops (unopened ops (cells store))
-  pub shown : list_all (λ (op : Op). list_all (λ s. shows op (slots_of slots s)) (option_to_list op.slot)) ops ≡ true
+  pub shown : AreShown (slots_of slots) ops

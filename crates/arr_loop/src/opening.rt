@@ -13,7 +13,8 @@ use arr_ops::Op;
 use arr_store::Store;
 use std::alloc::Global;
 
-fn has(bases: &[u32], base: u32) -> bool
+/// Whether a base is one of a list.
+pub(crate) fn has(bases: &[u32], base: u32) -> bool
     ensures { result ≡ has bases.now base }
 {
     bases.iter().any(|other| base == *other)

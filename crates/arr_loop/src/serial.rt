@@ -1,5 +1,5 @@
 //! A block with a serial operation: it computes into scratch, and then writes.
-ghost use Rattle.std.specs.Prelude.{ℕ, ◌≡◌, ◌+◌, ◌*◌, ◌≤◌, ◌<◌, ◌^◌, [], ◌∷◌, IsSome, None, Some, cond, false, is_some, length, take, true};
+ghost use Rattle.std.specs.Prelude.{◌≡◌, ◌+◌, ◌*◌, ◌≤◌, ◌<◌, ◌^◌, [], ◌∷◌, Some, cond, false, is_some, length, take, true};
 ghost use Rattle.std.specs.List.{find, list_all, list_any};
 ghost use Rattle.arr_view.specs.Views.{elements, positions};
 ghost use Rattle.arr_ops.specs.Ops.{freed_by, serial};
@@ -15,6 +15,7 @@ ghost use Rattle.arr_ops.specs.Formed.{well_formed};
 ghost use Rattle.arr_ops.specs.Memory.{computed, eager};
 ghost use Rattle.arr_loop.specs.Numbers.{loads_each};
 
+use crate::closing::{drop_freed, frees};
 use crate::computing::compute;
 use arr_contract::Prepared;
 use arr_ops::Op;
@@ -31,13 +32,6 @@ fn writer(ops: &[Op]) -> Option<Op>
         }
     }
     None
-}
-
-/// Whether some operation of a block frees a base.
-fn frees(block: &[Op], base: u32) -> bool
-    ensures { result ≡ freed_by block.now base }
-{
-    block.iter().any(|op| op.frees == Some(base))
 }
 
 /// Writes the first of the numbers that a block keeps at the elements of a view.
@@ -57,22 +51,6 @@ fn write_out(out: &View, prepared: &Prepared, store: &mut Store)
             out.element(position),
             prepared.number(u64::from(position)),
         );
-    }
-}
-
-/// Drops the bases that a block frees.
-fn drop_freed(prepared: &Prepared, store: &mut Store)
-    requires there { (b : ℕ) → freed_by prepared.now.ops b ≡ true → IsSome (cells store.old b) }
-    ensures bases { (b : ℕ) → cells store.new b ≡ cond (freed_by prepared.now.ops b) None (cells store.old b) }
-    ensures loads { store.new.loads ≡ store.old.loads }
-    ensures stores { store.new.stores ≡ store.old.stores }
-    ensures made { store.new.made ≡ store.old.made }
-{
-    let ops = prepared.ops();
-    for op in ops {
-        if let Some(base) = op.frees {
-            store.drop_base(base);
-        }
     }
 }
 

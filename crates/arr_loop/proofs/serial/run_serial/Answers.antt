@@ -7,7 +7,7 @@ use Rattle.arr_view.specs.Views.{elements, positions}
 use Rattle.arr_ops.specs.declared.op.Op.{Op}
 use Rattle.arr_ops.specs.Fits.{op_fits}
 use Rattle.arr_ops.specs.Memory.{Cell, computed, eager, without_slots}
-use Rattle.arr_ops.specs.Ops.{freed_by}
+use Rattle.arr_ops.specs.Ops.{creates, freed_by}
 use Rattle.arr_store.specs.Stored.{cells, memory_of}
 use Rattle.arr_loop.specs.Ready.{before_open}
 use Rattle.arr_loop.proofs.Lone.{Lone, creates_none, found_some, lone_op, serial_writes, slots_lone}
@@ -55,11 +55,12 @@ drop_freed-requires c =
     let l : Lone c.args.prepared.now.ops c.in-Some.op = lone_op c.args.prepared.now.ops c.in-Some.op c.ops.ensures.block c.requires.serial found in
     let ops : List Op = c.args.prepared.now.ops in
     record {
-      there = λ b h.
+      there = λ b h made.
           left_there (freed_by c.args.prepared.now.ops c.in-Some-out.out.base) (cells c.args.store.now) (cells c.fill.new.store) c.in-Some-out.out.base (elements c.in-Some-out.out) (computed (memory_of c.args.store.now) c.in-Some.op) b c.fill.ensures.bases
           (subst (λ (f : ℕ → Option Cell). IsSome (f b)) (serial_unopened c.args.prepared.now.ops c.in-Some.op l c.ops.ensures.block (cells c.args.store.now))
           (freed_there (without_slots (before_open c.args.prepared.now.ops c.args.store.now c.args.slots.now)) c.args.prepared.now.ops c.requires.open.fit b (creates_none c.args.prepared.now.ops c.in-Some.op l b)
           (ap (λ os. freed_by os b) (sym c.fill.ensures.ops) ∙ h)));
+      absent = λ b h made. absurd (false≢true (sym (creates_none c.args.prepared.now.ops c.in-Some.op l b) ∙ ap (λ os. creates os b) (sym c.fill.ensures.ops) ∙ made));
     }
 
 pub returns-clause-bases : goal.returns-clause-bases

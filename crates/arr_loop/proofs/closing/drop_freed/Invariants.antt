@@ -1,7 +1,7 @@
 use Rattle.std.proofs.Common.{◌≡◌, ℕ, None, cond, take}
 use Rattle.arr_ops.specs.Ops.{freed_by}
 use Rattle.arr_store.specs.Stored.{cells}
-use Rattle.arr_loop.proofs.serial.drop_freed.Given as goal
+use Rattle.arr_loop.proofs.closing.drop_freed.Given as goal
 
 abbrev pub invariant-loop-op : goal.invariant-loop-op
 invariant-loop-op l = record {
