@@ -36,7 +36,7 @@ use std::marker::Model;
 
 /// A block of a legal plan, with all that running it takes (docs/PLANS.md, "Running a block"). A contract sees the block's operations in
 /// list order and the numbers that it keeps as scratch. Beside these numbers a block without a serial operation has its lanes: one for each
-/// distinct view, two for each operation and one spare a type, each with room for as many numbers as a strip has positions (`strip`).
+/// distinct view, one for each constant and one spare a type, each with room for as many numbers as a strip has positions (`strip`).
 #[derive(Drop)]
 pub struct Prepared {
     ops: Vec<Op>,
@@ -142,7 +142,7 @@ impl Prepared {
         self.numbers.len() as u64
     }
 
-    /// How many positions a strip of the block has at most, and so how many numbers each of its lanes has room for; the block has no serial
+    /// How many positions a strip of the block has at most, and so for how many numbers each of its lanes has room; the block has no serial
     /// operation (docs/PLANS.md, "Running a block"). It takes no memory.
     pub fn strip(&self) -> u64
         requires { list_any serial self.now.ops ≡ false }
