@@ -13,15 +13,20 @@ use Rattle.arr_ops.specs.Costs.{block_cost, cost}
 use Rattle.arr_ops.specs.declared.op.Op.{Op}
 use Rattle.arr_ops.specs.Fits.{fits}
 use Rattle.arr_ops.specs.Formed.{is_formed}
+use Rattle.arr_ops.specs.Costs.{total}
 use Rattle.arr_ops.specs.Memory.{Memory, eager, without_slots}
+use Rattle.arr_ops.specs.Plans.{is_legal}
+use Rattle.arr_ops.specs.Traffic.{buffers, read_bytes, write_bytes}
+use Rattle.arr_loop.proofs.Bounds.{Small, plan_small}
 use Rattle.arr_rewrite.specs.NormalForm.{normal_form}
 use Rattle.arr_rewrite.proofs.Laws.{normal_fits, normal_keeps}
 use Rattle.arr_store.specs.Stored.{Stored, memory_of}
 use Rattle.arr_run.specs.declared.flush.RunFault.{RunFault}
 use Rattle.arr_run.specs.declared.flush.RunFault.TheVariants.{WriteFault, NoMemory}
+use Rattle.arr_run.specs.Flushes.{Moves}
 use Rattle.arr_run.specs.Parts.{AppendsFront, CutIn, OnRan, RisesBy, Wrote}
 use Rattle.arr_run.specs.declared.planning.Planned.{Planned}
-use Rattle.arr_run.specs.Pieces.{Segment, bound_line, plan_lines, planned_lines}
+use Rattle.arr_run.specs.Pieces.{Rise, Rises, Segment, bound_line, plan_lines, plan_rise, planned_lines}
 use Rattle.arr_run.specs.Shown.{AllShow, slots_text}
 use Rattle.arr_run.proofs.Printed.{formed_show, formed_text}
 use Rattle.arr_run.proofs.Rewritten.{Kept, normal_kept, printed_same}
@@ -62,11 +67,36 @@ planned_text number recorded price ops list costs p count normal priced sum =
     ap (λ n. plan_text n number list p.plan costs ++ bound_line price p.bound p.units) count ∙ ap (λ l. plan_text (length ops) number l p.plan costs ++ bound_line price p.bound p.units) normal
     ∙ ap (λ cs. plan_text (length ops) number (normal_form ops) p.plan cs ++ bound_line price p.bound p.units) priced ∙ ap (λ n. plan_lines number ops p.plan ++ bound_line n p.bound p.units) sum
 
+-- ---- what a plan moves
+
+pub moved_by : (given list : List Op) (plan : List (List ℕ)) (old new : Stored) → given ≡ list → new.loads ≡ old.loads + total (read_bytes given) plan → new.stores ≡ old.stores + total (write_bytes given) plan
+    → new.made ≡ old.made + buffers given plan → Moves list plan old new
+moved_by given list plan old new e l s m =
+    record {
+      loads = l ∙ ap (λ os. old.loads + total (read_bytes os) plan) e;
+      stores = s ∙ ap (λ os. old.stores + total (write_bytes os) plan) e;
+      made = m ∙ ap (λ os. old.made + buffers os plan) e;
+    }
+
+pub moved_rises : (list : List Op) (plan : List (List ℕ)) (old new : Stored) → Moves list plan old new → Rises (plan_rise list plan) old new
+moved_rises list plan old new moved = record { loads = let e = moved.loads in omega arith; stores = moved.stores; made = moved.made }
+
+pub moved_little : (list : List Op) (plan : List (List ℕ)) (old new : Stored) → is_formed list ≡ true → is_legal list plan ≡ true → length list ≤ 256 → Moves list plan old new → RisesBy (2 ^ 32) old new
+moved_little list plan old new formed legal few moved =
+    let small : Small list plan = plan_small list plan formed legal few in
+    let l0 = small.loads in
+    let s0 = small.stores in
+    let m0 = small.buffers in
+    let l1 = moved.loads in
+    let s1 = moved.stores in
+    let m1 = moved.made in
+    record { loads = omega arith; stores = omega arith; made = omega arith }
+
 -- ---- a text that is cut
 
 -- a byte of the head is missing
-pub cut_head : (segment : Segment) (m : Memory) (a b : Option (List ℕ)) (store : Stored) → AppendsPart a b segment.head → CutIn segment m a b store store
-cut_head segment m a b store p =
+pub cut_head : (segment : Segment) (rise : Rise) (m : Memory) (a b : Option (List ℕ)) (store : Stored) → AppendsPart a b segment.head → CutIn segment rise m a b store store
+cut_head segment rise m a b store p =
     let short : p.0 < length segment.head = p.1 in
     let all = length-append segment.head segment.arrays in
     record {
@@ -79,8 +109,8 @@ cut_head segment m a b store p =
     }
 
 -- a byte of the arrays is missing
-pub cut_arrays : (segment : Segment) (m : Memory) (a b c : Option (List ℕ)) (store after : Stored) → Appends a b segment.head → AppendsPart b c segment.arrays → memory_of after ≡ m → RisesBy (2 ^ 32) store after → CutIn segment m a c store after
-cut_arrays segment m a b c store after first p is rises =
+pub cut_arrays : (segment : Segment) (rise : Rise) (m : Memory) (a b c : Option (List ℕ)) (store after : Stored) → Appends a b segment.head → AppendsPart b c segment.arrays → memory_of after ≡ m → Rises rise store after → CutIn segment rise m a c store after
+cut_arrays segment rise m a b c store after first p is rises =
     let short : p.0 < length segment.arrays = p.1 in
     let all = length-append segment.head segment.arrays in
     record {

@@ -13,7 +13,7 @@ use Rattle.arr_run.specs.declared.choice.Listing.TheVariants.{Quiet}
 use Rattle.arr_run.specs.declared.words.Command.TheVariants.{Run}
 use Rattle.arr_run.specs.Answers.{Answer, Ends, Given, Leaves, answer_status, answer_text, done, is_final, refused}
 use Rattle.arr_run.specs.Laws.{FaultsAreCounted, PrintsEagerly, PrintsRun, RefusalKeepsStore, RunIsKnown}
-use Rattle.arr_run.specs.Pieces.{Pieces, PlannedPart, Segment, flush_head, head_of, number_behind, segment_text, segments_from, slots_in}
+use Rattle.arr_run.specs.Pieces.{PlannedPart, PlannedParts, Segment, flush_head, head_of, number_behind, segment_text, segments_from, slots_in}
 
 -- where nothing is listed, nothing stands before arrays
 no_head : (choice : Choice) (number : ℕ) (x : Part) (p : PlannedPart choice number x) → choice.listing ≡ Quiet → head_of choice number x p ≡ []
@@ -21,18 +21,18 @@ no_head choice number (Flush list) p e = ap (λ l. flush_head l number list p.0)
 no_head choice number (Gather g) p e = refl
 no_head choice number (Scatter g) p e = refl
 
-no_heads : (choice : Choice) (number : ℕ) (parts : List Part) (pieces : Pieces choice number parts) (arrays : List Slot) → choice.listing ≡ Quiet
-    → flat_map segment_text (segments_from choice number parts pieces arrays) ≡ flat_map (λ (s : Segment). s.arrays) (segments_from choice number parts pieces arrays)
-no_heads choice number [] pieces arrays e = refl
-no_heads choice number (x ∷ xs) pieces arrays e =
+no_heads : (choice : Choice) (number : ℕ) (parts : List Part) (planned : PlannedParts choice number parts) (arrays : List Slot) → choice.listing ≡ Quiet
+    → flat_map segment_text (segments_from choice number parts planned arrays) ≡ flat_map (λ (s : Segment). s.arrays) (segments_from choice number parts planned arrays)
+no_heads choice number [] planned arrays e = refl
+no_heads choice number (x ∷ xs) planned arrays e =
     let own = flat_map array_text (take (slots_in x) arrays) in
-    let rest = segments_from choice (number_behind x number) xs pieces.1 (drop (slots_in x) arrays) in
-    ap (λ h. (h ++ own) ++ flat_map segment_text rest) (no_head choice number x (pieces.0).planned e)
-    ∙ ap (λ s. own ++ s) (no_heads choice (number_behind x number) xs pieces.1 (drop (slots_in x) arrays) e)
+    let rest = segments_from choice (number_behind x number) xs planned.1 (drop (slots_in x) arrays) in
+    ap (λ h. (h ++ own) ++ flat_map segment_text rest) (no_head choice number x planned.0 e)
+    ∙ ap (λ s. own ++ s) (no_heads choice (number_behind x number) xs planned.1 (drop (slots_in x) arrays) e)
 
 printed_by : (choice : Choice) (given : Given) (old new : Option (List ℕ)) (a : Answer given (Some (Run choice))) → answer_status a ≡ 0 → Ends a → Appends old new (answer_text a) → PrintsRun choice given.script old new
 printed_by choice given old new (done r) e ends w =
-    record { run = r; whole = ends; wrote = w; quiet = λ q. no_heads choice 1 r.parts r.pieces (eager_arrays r.steps) q ∙ ends.arrays }
+    record { run = r; whole = ends; wrote = w; quiet = λ q. no_heads choice 1 r.parts r.planned (eager_arrays r.steps) q ∙ ends.arrays }
 printed_by choice given old new (refused why) e ends w = absurd (omega arith)
 
 -- status 0: the text of a whole run was written, and nothing else

@@ -20,11 +20,10 @@ use Rattle.arr_run.specs.declared.planning.Planned.{Planned}
 use Rattle.arr_run.specs.Answers.{IsRun}
 use Rattle.arr_run.specs.Chosen.{IsChosen, alone}
 use Rattle.arr_run.specs.Laws.{RunsGoOn}
-use Rattle.arr_run.specs.Parts.{PlannedParts}
-use Rattle.arr_run.specs.Pieces.{Pieces, PlannedPart, Segment, head, number_behind, segment_text, segments_from, slots_in}
+use Rattle.arr_run.specs.Pieces.{PlannedPart, PlannedParts, Segment, head_of, number_behind, segment_text, segments_from, slots_in}
 use Rattle.arr_run.proofs.Chosen.{chosen_legal}
-use Rattle.arr_run.proofs.Flushes.{dealt, pieces_of, segments_arrays}
-use Rattle.arr_run.proofs.Turns.{number_after}
+use Rattle.arr_run.proofs.Flushes.{dealt, segments_arrays}
+use Rattle.arr_run.proofs.Turns.{number_after, planned_more}
 
 -- ---- every list has a plan by linear and by greedy
 
@@ -46,23 +45,19 @@ all_planned choice h number (x ∷ xs) = (planned_for choice h number x, all_pla
 
 -- ---- parts behind those that were begun
 
-abbrev pieces_more : (choice : Choice) (number : ℕ) (xs ys : List Part) → Pieces choice number xs → Pieces choice (number_after number xs) ys → Pieces choice number (xs ++ ys)
-pieces_more choice number [] ys p q = q
-pieces_more choice number (x ∷ xs) ys p q = (p.0, pieces_more choice (number_behind x number) xs ys p.1 q)
-
 -- the arrays that are left behind parts
 abbrev left_by : List Part → List Slot → List Slot
 left_by [] arrays = arrays
 left_by (x ∷ xs) arrays = left_by xs (drop (slots_in x) arrays)
 
-segments_join : (choice : Choice) (number : ℕ) (xs ys : List Part) (p : Pieces choice number xs) (q : Pieces choice (number_after number xs) ys) (arrays : List Slot)
-    → segments_from choice number (xs ++ ys) (pieces_more choice number xs ys p q) arrays ≡ segments_from choice number xs p arrays ++ segments_from choice (number_after number xs) ys q (left_by xs arrays)
+segments_join : (choice : Choice) (number : ℕ) (xs ys : List Part) (p : PlannedParts choice number xs) (q : PlannedParts choice (number_after number xs) ys) (arrays : List Slot)
+    → segments_from choice number (xs ++ ys) (planned_more choice number xs ys p q) arrays ≡ segments_from choice number xs p arrays ++ segments_from choice (number_after number xs) ys q (left_by xs arrays)
 segments_join choice number [] ys p q arrays = refl
 segments_join choice number (x ∷ xs) ys p q arrays =
-    ap (λ (s : List Segment). record { head = head p.0; arrays = flat_map array_text (take (slots_in x) arrays) } ∷ s) (segments_join choice (number_behind x number) xs ys p.1 q (drop (slots_in x) arrays))
+    ap (λ (s : List Segment). record { head = head_of choice number x p.0; arrays = flat_map array_text (take (slots_in x) arrays) } ∷ s) (segments_join choice (number_behind x number) xs ys p.1 q (drop (slots_in x) arrays))
 
 -- the arrays are dealt out in the same way, whatever the plans
-same_arrays : (choice : Choice) (number : ℕ) (parts : List Part) (p q : Pieces choice number parts) (arrays : List Slot)
+same_arrays : (choice : Choice) (number : ℕ) (parts : List Part) (p q : PlannedParts choice number parts) (arrays : List Slot)
     → flat_map (λ (s : Segment). s.arrays) (segments_from choice number parts p arrays) ≡ flat_map (λ (s : Segment). s.arrays) (segments_from choice number parts q arrays)
 same_arrays choice number [] p q arrays = refl
 same_arrays choice number (x ∷ xs) p q arrays = ap (λ t. flat_map array_text (take (slots_in x) arrays) ++ t) (same_arrays choice (number_behind x number) xs p.1 q.1 (drop (slots_in x) arrays))
@@ -75,20 +70,20 @@ goes_on choice script r h =
     let steps = recorded a.statements r.steps a.accepts in
     let formed : list_all is_part parts ≡ true = ap (list_all is_part) r.are ∙ all_parts r.steps steps in
     let prints : printed_parts empty parts ≡ eager_arrays r.steps = ap (printed_parts empty) r.are ∙ (recording r.steps steps).prints in
-    let behind : Pieces choice number r.rest = pieces_of choice number r.rest (all_planned choice h number r.rest) in
-    let pieces : Pieces choice 1 parts = pieces_more choice 1 r.parts r.rest r.pieces behind in
+    let behind : PlannedParts choice number r.rest = all_planned choice h number r.rest in
+    let planned : PlannedParts choice 1 parts = planned_more choice 1 r.parts r.rest r.planned behind in
     let plans : PlannedParts choice 1 parts = all_planned choice h 1 parts in
-    let run : IsRun choice script = record { steps = r.steps; accepted = a; parts = parts; rest = []; are = append-nil parts ∙ r.are; pieces = pieces } in
+    let run : IsRun choice script = record { steps = r.steps; accepted = a; parts = parts; rest = []; are = append-nil parts ∙ r.are; planned = planned } in
     let left : List Segment = segments_from choice number r.rest behind (left_by r.parts (eager_arrays r.steps)) in
     record {
       run = run;
       whole = record {
         ends = refl;
-        arrays = same_arrays choice 1 parts pieces (pieces_of choice 1 parts plans) (eager_arrays r.steps)
-            ∙ ap (λ (s : List Slot). flat_map (λ (g : Segment). g.arrays) (segments_from choice 1 parts (pieces_of choice 1 parts plans) s)) (sym prints ∙ sym (append-nil (printed_parts empty parts)))
+        arrays = same_arrays choice 1 parts planned plans (eager_arrays r.steps)
+            ∙ ap (λ (s : List Slot). flat_map (λ (g : Segment). g.arrays) (segments_from choice 1 parts plans s)) (sym prints ∙ sym (append-nil (printed_parts empty parts)))
             ∙ ap (flat_map (λ (g : Segment). g.arrays)) (dealt choice parts 1 empty plans [] formed) ∙ segments_arrays choice 1 empty parts plans ∙ ap (flat_map array_text) prints;
       };
       more = flat_map segment_text left;
-      text = ap (flat_map segment_text) (segments_join choice 1 r.parts r.rest r.pieces behind (eager_arrays r.steps))
-          ∙ flat_map-append segment_text (segments_from choice 1 r.parts r.pieces (eager_arrays r.steps)) left;
+      text = ap (flat_map segment_text) (segments_join choice 1 r.parts r.rest r.planned behind (eager_arrays r.steps))
+          ∙ flat_map-append segment_text (segments_from choice 1 r.parts r.planned (eager_arrays r.steps)) left;
     }

@@ -54,7 +54,7 @@ use Rattle.arr_run.specs.Answers.{Answer as Reply, Ends as Whole, Given, IsAccep
 use Rattle.arr_run.specs.Checked.{IsProof, checks, lists_of, most_proof, verdict_status, verdict_text}
 use Rattle.arr_run.specs.Chosen.{IsChosen, Searched}
 use Rattle.arr_run.specs.Laws.{AcceptsRun, RunsCheck, bounds_in, run_bounds}
-use Rattle.arr_run.specs.Pieces.{Pieces, bound_line, certificate_lines, flush_head, plan_lines, segment_text, segments_from, slots_in}
+use Rattle.arr_run.specs.Pieces.{PlannedParts, bound_line, certificate_lines, flush_head, plan_lines, segment_text, segments_from, slots_in}
 use Rattle.arr_run.proofs.Accepted.{certificate_moves, certificate_sized, records}
 use Rattle.arr_run.proofs.Judging.{onto_more}
 use Rattle.arr_run.proofs.Chosen.{small_costs}
@@ -289,15 +289,15 @@ behind_flush own rest line room list lists bounds number price bound plan wanted
       verdict = answered list lists number price bound plan c on.front a.reading bounds s i on.are ∙ a.verdict;
     }
 
-agreed_parts : (choice : Choice) → choice.fuse ≡ Best → choice.listing ≡ Cert → (parts : List Part) (number : ℕ) (pieces : Pieces choice number parts) (arrays : List Slot) (line room : ℕ) (bounds : List (ℕ × ℕ)) → list_all is_part parts ≡ true
-    → number + length parts < 2 ^ 32 → length (flat_map segment_text (segments_from choice number parts pieces arrays)) ≤ room
-    → Agreed (flat_map segment_text (segments_from choice number parts pieces arrays)) line room (lists_of parts) bounds number (bounds ++ bounds_in choice number parts pieces)
-agreed_parts choice best cert [] number pieces arrays line room bounds h few w = record { reading = Ends line; read = refl; verdict = ap Accepted (sym (append-nil bounds)) }
-agreed_parts choice best cert (Flush list ∷ parts) number pieces arrays line room bounds h few w =
+agreed_parts : (choice : Choice) → choice.fuse ≡ Best → choice.listing ≡ Cert → (parts : List Part) (number : ℕ) (planned : PlannedParts choice number parts) (arrays : List Slot) (line room : ℕ) (bounds : List (ℕ × ℕ)) → list_all is_part parts ≡ true
+    → number + length parts < 2 ^ 32 → length (flat_map segment_text (segments_from choice number parts planned arrays)) ≤ room
+    → Agreed (flat_map segment_text (segments_from choice number parts planned arrays)) line room (lists_of parts) bounds number (bounds ++ bounds_in choice number parts planned)
+agreed_parts choice best cert [] number planned arrays line room bounds h few w = record { reading = Ends line; read = refl; verdict = ap Accepted (sym (append-nil bounds)) }
+agreed_parts choice best cert (Flush list ∷ parts) number planned arrays line room bounds h few w =
     let here = both_left (is_part (Flush list)) (list_all is_part parts) h in
     let there = both_right (is_part (Flush list)) (list_all is_part parts) h in
-    let p : Planned = pieces.0.planned.0 in
-    let is = pieces.0.planned.1 in
+    let p : Planned = planned.0.0 in
+    let is = planned.0.1 in
     let own_arrays : List Slot = take (slots_in (Flush list)) arrays in
     let others : List Slot = drop (slots_in (Flush list)) arrays in
     let s : Searched (normal_form list) number choice.budget p = subst (λ f. IsChosen f (normal_form list) number choice.budget p) best is.chosen in
@@ -306,25 +306,25 @@ agreed_parts choice best cert (Flush list ∷ parts) number pieces arrays line r
     let sized : list_all is_sized (records_of s.certificate) ≡ true = numbers_small (normal_form list) number s.bound p.plan s.certificate small is.legal s.best.below (omega arith) s.best.certificate in
     let reads : ReadsAs (flush_head choice.listing number list p ++ flat_map array_text own_arrays) (records_of s.certificate) =
     subst (λ l. ReadsAs (flush_head l number list p ++ flat_map array_text own_arrays) (records_of s.certificate)) (sym cert) (reads_flush number list p s.certificate own_arrays s.certificate_is s.best.certificate.spellable sized) in
-    let rest : List ℕ = flat_map segment_text (segments_from choice (suc number) parts pieces.1 others) in
-    let wanted : (bounds ++ (price, s.bound) ∷ []) ++ bounds_in choice (suc number) parts pieces.1 ≡ bounds ++ bounds_in choice number (Flush list ∷ parts) pieces =
-    append_assoc bounds ((price, s.bound) ∷ []) (bounds_in choice (suc number) parts pieces.1) ∙ ap (λ (o : Option ℕ). bounds ++ (map (λ b. (price, b)) (option_to_list o) ++ bounds_in choice (suc number) parts pieces.1)) (sym s.bound_is) in
+    let rest : List ℕ = flat_map segment_text (segments_from choice (suc number) parts planned.1 others) in
+    let wanted : (bounds ++ (price, s.bound) ∷ []) ++ bounds_in choice (suc number) parts planned.1 ≡ bounds ++ bounds_in choice number (Flush list ∷ parts) planned =
+    append_assoc bounds ((price, s.bound) ∷ []) (bounds_in choice (suc number) parts planned.1) ∙ ap (λ (o : Option ℕ). bounds ++ (map (λ b. (price, b)) (option_to_list o) ++ bounds_in choice (suc number) parts planned.1)) (sym s.bound_is) in
     subst (Agreed ((flush_head choice.listing number list p ++ flat_map array_text own_arrays) ++ rest) line room (normal_form list ∷ lists_of parts) bounds number) wanted
     (behind_flush (flush_head choice.listing number list p ++ flat_map array_text own_arrays) rest line room (normal_form list) (lists_of parts) bounds number price s.bound p.plan
-    ((bounds ++ (price, s.bound) ∷ []) ++ bounds_in choice (suc number) parts pieces.1) s.certificate small s.best.certificate reads w
-    (λ l k fits. agreed_parts choice best cert parts (suc number) pieces.1 others l k (bounds ++ (price, s.bound) ∷ []) there (omega arith) fits))
-agreed_parts choice best cert (Gather g ∷ parts) number pieces arrays line room bounds h few w =
+    ((bounds ++ (price, s.bound) ∷ []) ++ bounds_in choice (suc number) parts planned.1) s.certificate small s.best.certificate reads w
+    (λ l k fits. agreed_parts choice best cert parts (suc number) planned.1 others l k (bounds ++ (price, s.bound) ∷ []) there (omega arith) fits))
+agreed_parts choice best cert (Gather g ∷ parts) number planned arrays line room bounds h few w =
     let there = both_right (is_part (Gather g)) (list_all is_part parts) h in
     let own_arrays : List Slot = take (slots_in (Gather g)) arrays in
     let others : List Slot = drop (slots_in (Gather g)) arrays in
-    behind_silent (flat_map array_text own_arrays) (flat_map segment_text (segments_from choice number parts pieces.1 others)) line room (lists_of parts) bounds number (bounds ++ bounds_in choice number parts pieces.1) (arrays_silent own_arrays) w
-    (λ l k fits. agreed_parts choice best cert parts number pieces.1 others l k bounds there (omega arith) fits)
-agreed_parts choice best cert (Scatter g ∷ parts) number pieces arrays line room bounds h few w =
+    behind_silent (flat_map array_text own_arrays) (flat_map segment_text (segments_from choice number parts planned.1 others)) line room (lists_of parts) bounds number (bounds ++ bounds_in choice number parts planned.1) (arrays_silent own_arrays) w
+    (λ l k fits. agreed_parts choice best cert parts number planned.1 others l k bounds there (omega arith) fits)
+agreed_parts choice best cert (Scatter g ∷ parts) number planned arrays line room bounds h few w =
     let there = both_right (is_part (Scatter g)) (list_all is_part parts) h in
     let own_arrays : List Slot = take (slots_in (Scatter g)) arrays in
     let others : List Slot = drop (slots_in (Scatter g)) arrays in
-    behind_silent (flat_map array_text own_arrays) (flat_map segment_text (segments_from choice number parts pieces.1 others)) line room (lists_of parts) bounds number (bounds ++ bounds_in choice number parts pieces.1) (arrays_silent own_arrays) w
-    (λ l k fits. agreed_parts choice best cert parts number pieces.1 others l k bounds there (omega arith) fits)
+    behind_silent (flat_map array_text own_arrays) (flat_map segment_text (segments_from choice number parts planned.1 others)) line room (lists_of parts) bounds number (bounds ++ bounds_in choice number parts planned.1) (arrays_silent own_arrays) w
+    (λ l k fits. agreed_parts choice best cert parts number planned.1 others l k bounds there (omega arith) fits)
 
 -- ---- a script is accepted in one way
 
@@ -352,7 +352,7 @@ whole_verdict choice script best cert run whole w given check is_script is_proof
     let formed : list_all is_part run.parts ≡ true = ap (list_all is_part) parts ∙ all_parts run.steps (recorded a.statements run.steps a.accepts) in
     let few = (few_parts script a.statements run.steps a.short a.reads.script a.accepts).1 in
     let long = ap length parts in
-    let agreed : Agreed (run_text run) 1 most_proof (lists_of run.parts) [] 1 (run_bounds run) = agreed_parts choice best cert run.parts 1 run.pieces (eager_arrays run.steps) 1 most_proof [] formed (omega arith) w in
+    let agreed : Agreed (run_text run) 1 most_proof (lists_of run.parts) [] 1 (run_bounds run) = agreed_parts choice best cert run.parts 1 run.planned (eager_arrays run.steps) 1 most_proof [] formed (omega arith) w in
     let read : IsRead (marked 1 most_proof (lines (run_text run))) check.reading = told given.proof is_proof check.read in
     let same : check.reading ≡ agreed.reading = read_once (marked 1 most_proof (lines (run_text run))) check.reading agreed.reading read agreed.read in
     ap (λ ss. checks (parts_of ss) check.reading) (sym steps) ∙ ap (checks (parts_of run.steps)) same ∙ ap (λ (ps : List Part). checks ps agreed.reading) (sym parts) ∙ agreed.verdict

@@ -2,8 +2,9 @@
 use Rattle.std.specs.Prelude.{◌≡◌, ◌+◌, ℕ, List, length, map}
 use Rattle.std.specs.List.{flat_map}
 use Rattle.arr_ops.specs.declared.op.Op.{Op}
-use Rattle.arr_ops.specs.Costs.{block_cost, cost}
+use Rattle.arr_ops.specs.Costs.{block_cost, cost, total}
 use Rattle.arr_ops.specs.Memory.{Memory}
+use Rattle.arr_ops.specs.Traffic.{buffers, read_bytes, write_bytes}
 use Rattle.arr_elab.specs.Steps.{printed}
 use Rattle.arr_listing.specs.Texts.{array_text}
 use Rattle.arr_rewrite.specs.NormalForm.{normal_form}
@@ -30,8 +31,14 @@ flush_segment choice number m list p = record { head = flush_head choice.listing
 abbrev pub planned_in : Report → Planned
 planned_in report = record { plan = report.plan; bound = report.bound; units = report.units; certificate = report.certificate }
 
+-- What running a list by a plan moved: by how much the counters of the store rose.
+pub record Moves (list : List Op) (plan : List (List ℕ)) (old new : Stored) : Type 0 where
+  pub loads : new.loads ≡ old.loads + total (read_bytes list) plan
+  pub stores : new.stores ≡ old.stores + total (write_bytes list) plan
+  pub made : new.made ≡ old.made + buffers list plan
+
 -- What a report says: how many operations were recorded and are left, the plan that was chosen, its blocks and cost, and by how much the
--- counters rose.
+-- counters rose, which is what the blocks of this very plan move.
 pub record Reports (choice : Choice) (number : ℕ) (list : List Op) (store after : Stored) (report : Report) : Type 0 where
   pub recorded : report.recorded ≡ length list
   pub rewritten : report.rewritten ≡ length (normal_form list)
@@ -41,3 +48,4 @@ pub record Reports (choice : Choice) (number : ℕ) (list : List Op) (store afte
   pub loads : store.loads + report.loads ≡ after.loads
   pub stores : store.stores + report.stores ≡ after.stores
   pub made : store.made + report.made ≡ after.made
+  pub moved : Moves (normal_form list) report.plan store after

@@ -7,16 +7,20 @@ use Rattle.arr_elab.specs.Steps.{eager_arrays}
 use Rattle.arr_store.specs.Stored.{Stored}
 use Rattle.arr_run.specs.declared.words.Command.TheVariants.{Run, Check}
 use Rattle.arr_run.specs.declared.choice.Choice.{Choice}
-use Rattle.arr_run.specs.declared.choice.Fuse.TheVariants.{Best}
+use Rattle.arr_run.specs.declared.choice.Fuse.TheVariants.{Linear, Best}
 use Rattle.arr_run.specs.declared.choice.Listing.TheVariants.{Quiet, Cert}
 use Rattle.arr_ops.specs.Costs.{cost}
+use Rattle.arr_ops.specs.declared.op.Op.{Op}
+use Rattle.arr_heur.specs.Planners.{greedy_plan}
 use Rattle.arr_record.specs.declared.part.Part.{Part}
 use Rattle.arr_record.specs.declared.part.Part.TheVariants.{Flush}
 use Rattle.arr_record.specs.Parts.{parts_of}
 use Rattle.arr_rewrite.specs.NormalForm.{normal_form}
+use Rattle.arr_run.specs.declared.planning.Planned.{Planned}
+use Rattle.arr_run.specs.Chosen.{IsPlanned}
 use Rattle.arr_run.specs.Answers.{Blames, Given, IsCheck, IsRun, IsWhole, Serves, check_verdict, is_final, run_text}
 use Rattle.arr_run.specs.Checked.{AreBounds, accepted_line, bounds_of, flush_lines, lists_of, most_proof, verdict_status, verdict_text}
-use Rattle.arr_run.specs.Pieces.{Pieces, PlannedPart, Segment, number_behind, ran, segment_text}
+use Rattle.arr_run.specs.Pieces.{PlannedPart, PlannedParts, Segment, number_behind, plan_rise, ran, segment_text}
 use Rattle.arr_listing.specs.Texts.{array_text}
 
 -- ---- what a status says
@@ -77,6 +81,19 @@ pub record GoesOn {choice : Choice} {script : List ℕ} (r : IsRun choice script
 abbrev pub RunsGoOn : Type 0
 RunsGoOn = (choice : Choice) (script : List ℕ) (r : IsRun choice script) → choice.fuse ≢ Best → GoesOn r
 
+-- ---- what a flush moves
+
+-- a plan loads no more than so many bytes, and stores no more
+abbrev pub MovesWithin : List Op → List (List ℕ) → ℕ → Type 0
+MovesWithin list plan most = ((plan_rise list plan).loads ≤ most) × ((plan_rise list plan).stores ≤ most)
+
+-- what the plan of a flush loads, and what it stores, is each no more than it costs, and with best no more than greedy's plan costs
+abbrev pub MovesLittle : Type 0
+MovesLittle =
+    (choice : Choice) (number : ℕ) (list : List Op) (p : Planned) → IsPlanned choice number list p
+    → MovesWithin (normal_form list) p.plan (cost (normal_form list) p.plan)
+    × (choice.fuse ≢ Linear → MovesWithin (normal_form list) p.plan (cost (normal_form list) (greedy_plan (normal_form list))))
+
 -- ---- what `check` says of what `run` wrote
 
 -- cost and bound of the plan of a part, if it has a bound
@@ -85,12 +102,12 @@ bound_in choice number (Flush list) planned = map (λ bound. (cost (normal_form 
 bound_in choice number _ planned = []
 
 -- those of parts, the next flush having this number
-abbrev pub bounds_in : (choice : Choice) (number : ℕ) (parts : List Part) → Pieces choice number parts → List (ℕ × ℕ)
-bounds_in choice number [] pieces = []
-bounds_in choice number (part ∷ parts) pieces = bound_in choice number part pieces.0.planned ++ bounds_in choice (number_behind part number) parts pieces.1
+abbrev pub bounds_in : (choice : Choice) (number : ℕ) (parts : List Part) → PlannedParts choice number parts → List (ℕ × ℕ)
+bounds_in choice number [] planned = []
+bounds_in choice number (part ∷ parts) planned = bound_in choice number part planned.0 ++ bounds_in choice (number_behind part number) parts planned.1
 
 abbrev pub run_bounds : {choice : Choice} {script : List ℕ} → IsRun choice script → List (ℕ × ℕ)
-run_bounds {choice} r = bounds_in choice 1 r.parts r.pieces
+run_bounds {choice} r = bounds_in choice 1 r.parts r.planned
 
 -- The output is the text of a whole run, and the lines of an accepted proof were written, with the cost and the bound of each of its plans.
 pub record AcceptsRun (choice : Choice) (script output : List ℕ) (status : ℕ) (old new : Option (List ℕ)) : Type 0 where

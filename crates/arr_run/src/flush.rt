@@ -13,7 +13,7 @@ ghost use Rattle.arr_rewrite.specs.NormalForm.{normal_form};
 ghost use Rattle.arr_store.specs.Slots.{slots_of};
 ghost use Rattle.arr_store.specs.Stored.{memory_of};
 ghost use Rattle.arr_record.specs.declared.part.Part.TheVariants.{Flush};
-ghost use Rattle.arr_run.specs.Flushes.{Reports, flush_segment, planned_in};
+ghost use Rattle.arr_run.specs.Flushes.{Moves, Reports, flush_segment, planned_in};
 ghost use Rattle.std.specs.Io.KnownBytes.{Appends};
 ghost use Rattle.arr_run.specs.Parts.{Caused, CountsBelow, OnRan, PartBroke, PartStopped, RisesBy, Wrote};
 ghost use Rattle.arr_run.specs.Pieces.{segment_text};
@@ -22,11 +22,11 @@ ghost use Rattle.arr_run.specs.Shown.{AllShow, slot_text, slots_text};
 use crate::choice::Choice;
 use crate::head::write_head;
 use crate::planning::{Prepared, prepare};
-use arr_io::{Sink, SinkBuffer, WriteFault};
+use arr_io::{NoMemory, Sink, SinkBuffer, WriteFault};
 use arr_law::Certificate;
 use arr_listing::put_array;
+use arr_loop::run_plan;
 use arr_ops::{Op, Plan};
-use arr_perform::perform_plan;
 use arr_sets::MOST;
 use arr_store::{Slots, Store};
 use std::alloc::Global;
@@ -107,7 +107,36 @@ fn write_slots<K: Sink>(ops: &[Op], slots: &Slots, sink: &mut K) -> Result<(), W
     out.finish(sink)
 }
 
-/// Runs a prepared list block by block, and writes what it shows.
+/// Runs a prepared list block by block, and answers the slots that its SYNCs filled.
+pub(crate) fn run_list(
+    alloc: Global,
+    ops: &[Op],
+    prepared: &Prepared,
+    store: &mut Store,
+) -> Result<Slots, NoMemory>
+    requires normal { prepared.now.list.items ≡ normal_form ops.now }
+    requires legal { is_legal (normal_form ops.now) prepared.now.planned.plan ≡ true }
+    requires formed { is_formed ops.now ≡ true }
+    requires fitting { fits (memory_of store.old) ops.now ≡ true }
+    requires few { length ops.now ≤ MOST }
+    requires counts { CountsBelow (2 ^ 60) store.old }
+    ensures slots { IfOk result (λ slots. slots_of slots ≡ (eager (memory_of store.old) (normal_form ops.now)).slots) }
+    ensures memory { OnOk result (memory_of store.new ≡ without_slots (eager (memory_of store.old) ops.now)) }
+    ensures moved { OnOk result (Moves (normal_form ops.now) prepared.now.planned.plan store.old store.new) }
+    ensures counts { OnOk result (RisesBy (2 ^ 32) store.old store.new) }
+{
+    let mut slots = Slots::for_list(alloc, &prepared.list)?;
+    run_plan(
+        alloc,
+        &prepared.list,
+        &prepared.planned.plan,
+        store,
+        &mut slots,
+    )?;
+    Ok(slots)
+}
+
+/// Runs a prepared list, and writes what it shows.
 fn run_prepared<K: Sink>(
     alloc: Global,
     ops: &[Op],
@@ -119,24 +148,15 @@ fn run_prepared<K: Sink>(
     requires legal { is_legal (normal_form ops.now) prepared.now.planned.plan ≡ true }
     requires formed { is_formed ops.now ≡ true }
     requires fitting { fits (memory_of store.old) ops.now ≡ true }
-    requires few { length ops.now ≤ 256 }
-    requires counts { CountsBelow (2 ^ 61) store.old }
+    requires few { length ops.now ≤ MOST }
+    requires counts { CountsBelow (2 ^ 60) store.old }
     ensures wrote { Wrote result (K.written sink.old) (K.written sink.new) (flat_map array_text (printed (memory_of store.old) ops.now)) }
     ensures cause { Caused (K.faults sink.old) (K.faults sink.new) result }
     ensures memory { OnRan result (memory_of store.new ≡ without_slots (eager (memory_of store.old) ops.now)) }
+    ensures moved { OnRan result (Moves (normal_form ops.now) prepared.now.planned.plan store.old store.new) }
     ensures counts { OnRan result (RisesBy (2 ^ 32) store.old store.new) }
-    ensures kept { RisesBy 0 store.new store.old }
 {
-    let Ok(mut slots) = Slots::for_list(alloc, &prepared.list) else {
-        return Err(RunFault::NoMemory);
-    };
-    let Ok(()) = perform_plan(
-        alloc,
-        &prepared.list,
-        &prepared.planned.plan,
-        store,
-        &mut slots,
-    ) else {
+    let Ok(slots) = run_list(alloc, ops, prepared, store) else {
         return Err(RunFault::NoMemory);
     };
     match write_slots(&prepared.list, &slots, sink) {

@@ -1,5 +1,5 @@
 //! What follows from the contract of [`serve`](crate::serve). Each function does nothing: its contract is the law.
-ghost use Rattle.arr_run.specs.Laws.{ChecksCertify, FaultsAreCounted, PrintsEagerly, RanInArrays, RanInHead, RanWhole, RefusalKeepsStore, RunIsKnown, RunsCheck, RunsGoOn};
+ghost use Rattle.arr_run.specs.Laws.{ChecksCertify, FaultsAreCounted, MovesLittle, PrintsEagerly, RanInArrays, RanInHead, RanWhole, RefusalKeepsStore, RunIsKnown, RunsCheck, RunsGoOn};
 
 /// What the statuses of `run` say, taken from the relation `Serves` alone (docs/LANGUAGE.md, "The program"): at 0 the script is
 /// accepted, and the text of a whole run of it was written: plan lines, where they are listed, and its eager arrays, and where no plans are
@@ -28,6 +28,12 @@ pub fn runs_check()
 /// where a write failed or memory was wanting is a front of a text that status 0 allows.
 pub fn runs_go_on()
     ensures { RunsGoOn }
+{}
+
+/// What the plan of a flush loads, and what it stores, is each no more than it costs, and with best no more than what greedy's plan costs: so
+/// much is known of the counters of a store after a run that listed no plan (docs/PLANS.md, "Cost").
+pub fn moves_little()
+    ensures { MovesLittle }
 {}
 
 /// Over sources and a sink whose counts of faults don't change, as those that never fail, `serve` answers neither 3 nor 4.

@@ -8,7 +8,8 @@
 //! chosen for a list is a legal plan; that of the planner best comes with a bound that no legal plan costs less than and a certificate
 //! that the checker accepts, and it costs the bound or the budget was spent (specs/Chosen.antt).
 //!
-//! [`flush_once`] runs one list: it is rewritten, planned, listed, run block by block, and printed (`Reports` in specs/Flushes.antt).
+//! [`flush_once`] runs one list: it is rewritten, planned, listed, run block by block, and printed (`Reports` in specs/Flushes.antt). The counters of the
+//! store rise by what the blocks of the plan that was chosen read, write and make (`Moves`), and so over a whole run (`rise_of` in specs/Pieces.antt).
 //!
 //! A fault of reading or writing is answered only where the source or the sink counted one in this call (clause `blames`), and an
 //! accepted script is not refused (`complete`). Want of memory alone may come anywhere. What follows from the relation for a caller
@@ -30,7 +31,8 @@ mod words;
 pub use choice::{Choice, Fuse, Listing};
 pub use flush::{Report, RunFault, flush_once};
 pub use laws::{
-    checks_certify, faults_are_counted, parts_are_counted, runs_check, runs_go_on, statuses_say,
+    checks_certify, faults_are_counted, moves_little, parts_are_counted, runs_check, runs_go_on,
+    statuses_say,
 };
 pub use program::serve;
 pub use words::Command;

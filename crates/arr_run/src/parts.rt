@@ -9,7 +9,7 @@ ghost use Rattle.arr_ops.specs.Gathers.{gather_fits, gathered, is_gather, is_sca
 ghost use Rattle.arr_record.specs.Runs.{after_part, after_parts, each_fits, is_part, part_fits};
 ghost use Rattle.arr_store.specs.Stored.{memory_of};
 ghost use Rattle.arr_run.specs.Parts.{BrokeIn, Caused, CountsBelow, PartBroke, PartStopped, PartWrote, PartsWrote, RisesBy, StoppedIn};
-ghost use Rattle.arr_run.specs.Pieces.{number_behind};
+ghost use Rattle.arr_run.specs.Pieces.{Rises, gather_rise, number_behind, scatter_rise};
 
 use crate::choice::Choice;
 use crate::flush::{RunFault, flush_once};
@@ -26,6 +26,7 @@ fn run_gather(alloc: Global, op: &Gather, store: &mut Store) -> Result<(), RunFa
     requires fitting { gather_fits (memory_of store.old) op.now ≡ true }
     requires counts { CountsBelow (2 ^ 60) store.old }
     ensures memory { OnOk result (memory_of store.new ≡ gathered (memory_of store.old) op.now) }
+    ensures rises { OnOk result (Rises (gather_rise op.now) store.old store.new) }
     ensures counts { OnOk result (RisesBy (2 ^ 32) store.old store.new) }
     ensures silent { IsErrOf result RunFault.WriteFault → ⊥ }
 {
@@ -41,6 +42,7 @@ fn run_scatter(alloc: Global, op: &Scatter, store: &mut Store) -> Result<(), Run
     requires fitting { scatter_fits (memory_of store.old) op.now ≡ true }
     requires counts { CountsBelow (2 ^ 60) store.old }
     ensures memory { OnOk result (memory_of store.new ≡ scattered (memory_of store.old) op.now) }
+    ensures rises { OnOk result (Rises (scatter_rise op.now) store.old store.new) }
     ensures counts { OnOk result (RisesBy (2 ^ 32) store.old store.new) }
     ensures silent { IsErrOf result RunFault.WriteFault → ⊥ }
 {
@@ -75,7 +77,8 @@ fn run_flush<K: Sink>(
     requires fitting { fits (memory_of store.old) ops.now ≡ true }
     requires few { length ops.now ≤ 256 }
     requires counts { CountsBelow (2 ^ 60) store.old }
-    ensures wrote { OnOk result (PartWrote choice number (memory_of store.old) (Flush ops.now) (K.written sink.old) (K.written sink.new)) }
+    ensures wrote { OnOk result (PartWrote choice number (memory_of store.old) (Flush ops.now)
+        (K.written sink.old) (K.written sink.new) store.old store.new) }
     ensures cause { Caused (K.faults sink.old) (K.faults sink.new) result }
     ensures memory { OnOk result (memory_of store.new ≡ without_slots (eager (memory_of store.old) ops.now)) }
     ensures counts { OnOk result (RisesBy (2 ^ 32) store.old store.new) }
@@ -100,7 +103,8 @@ fn run_part<K: Sink>(
     requires part { is_part part.now ≡ true }
     requires fitting { part_fits (memory_of store.old) part.now ≡ true }
     requires counts { CountsBelow (2 ^ 60) store.old }
-    ensures wrote { OnOk result (PartWrote choice number (memory_of store.old) part.now (K.written sink.old) (K.written sink.new)) }
+    ensures wrote { OnOk result (PartWrote choice number (memory_of store.old) part.now
+        (K.written sink.old) (K.written sink.new) store.old store.new) }
     ensures cause { Caused (K.faults sink.old) (K.faults sink.new) result }
     ensures memory { OnOk result (memory_of store.new ≡ after_part (memory_of store.old) part.now) }
     ensures counts { OnOk result (RisesBy (2 ^ 32) store.old store.new) }
@@ -128,10 +132,10 @@ pub(crate) fn run_parts<K: Sink>(
     requires fitting { each_fits (memory_of store.old) parts.now ≡ true }
     requires few { length parts.now ≤ 4_194_304 }
     requires counts { CountsBelow (2 ^ 59) store.old }
-    ensures wrote { OnOk result (PartsWrote choice (memory_of store.old) parts.now (K.written sink.old) (K.written sink.new)) }
+    ensures wrote { OnOk result (PartsWrote choice (memory_of store.old) parts.now
+        (K.written sink.old) (K.written sink.new) store.old store.new) }
     ensures cause { Caused (K.faults sink.old) (K.faults sink.new) result }
     ensures memory { OnOk result (memory_of store.new ≡ after_parts (memory_of store.old) parts.now) }
-    ensures counts { OnOk result (RisesBy (length parts.now * 2 ^ 32) store.old store.new) }
     ensures stopped { IsErrOf result RunFault.WriteFault
         → StoppedIn choice (memory_of store.old) parts.now (K.written sink.old) (K.written sink.new) store.old store.new }
     ensures broke { IsErrOf result RunFault.NoMemory

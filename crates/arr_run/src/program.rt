@@ -9,7 +9,7 @@ ghost use Rattle.std.specs.Io.KnownBytes.{IsAtEnd};
 ghost use Rattle.arr_store.specs.Stored.{Stored, cells, memory_of};
 ghost use Rattle.arr_run.specs.Answers.{Accepts, Blames, Finishes, HasRead, IsReadOut, Serves, is_final};
 ghost use Rattle.arr_run.specs.Checking.{Judges};
-ghost use Rattle.arr_run.specs.Parts.{BrokeIn, CountsBelow, Ended, PartsWrote, RisesBy, StoppedIn};
+ghost use Rattle.arr_run.specs.Parts.{BrokeIn, CountsBelow, Ended, PartsWrote, StoppedIn};
 ghost use Rattle.arr_run.specs.Texts.{refusal_text};
 ghost use Rattle.arr_run.specs.Words.{command_of};
 
@@ -144,11 +144,11 @@ fn run_all<K: Sink>(
     requires few { length parts.now ≤ 4_194_304 }
     requires counts { CountsBelow (2 ^ 59) store.old }
     ensures known { (result ≡ 0) ⊎ (result ≡ 4) ⊎ (result ≡ 5) }
-    ensures wrote { result ≡ 0 → PartsWrote choice (memory_of store.old) parts.now (K.written sink.old) (K.written sink.new) }
+    ensures wrote { result ≡ 0 → PartsWrote choice (memory_of store.old) parts.now
+        (K.written sink.old) (K.written sink.new) store.old store.new }
     ensures later { K.faults sink.old ≤ K.faults sink.new }
     ensures cause { result ≡ 4 → Rose (K.faults sink.old) (K.faults sink.new) }
     ensures memory { result ≡ 0 → memory_of store.new ≡ after_parts (memory_of store.old) parts.now }
-    ensures counts { result ≡ 0 → RisesBy (length parts.now * 2 ^ 32) store.old store.new }
     ensures stopped { result ≡ 4
         → StoppedIn choice (memory_of store.old) parts.now (K.written sink.old) (K.written sink.new) store.old store.new }
     ensures broke { result ≡ 5 → BrokeIn choice (memory_of store.old) parts.now (K.written sink.old) (K.written sink.new) }

@@ -12,3 +12,6 @@ pub returns-in-Ok-clause-counts : goal.returns-in-Ok-clause-counts
 returns-in-Ok-clause-counts c =
     let small = small_gather c.args.op.now c.requires.lawful in
     record { loads = omega (arith, small.index, small.out, c.in-Ok.ensures.loads); stores = omega (arith, small.out, c.in-Ok.ensures.stores); made = omega (arith, c.in-Ok.ensures.made) }
+
+pub returns-in-Ok-clause-rises : goal.returns-in-Ok-clause-rises
+returns-in-Ok-clause-rises c = record { loads = c.in-Ok.ensures.loads; stores = c.in-Ok.ensures.stores; made = c.in-Ok.ensures.made }

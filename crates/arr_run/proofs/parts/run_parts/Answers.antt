@@ -27,7 +27,7 @@ returns-in_err-run_part-clause-stopped g c = λ is.
     let x = c.part-item.result in
     let t : Turn parts i m now c.loop-part.number x = turn parts i m now c.loop-part.number x c.loop-part-test.true c.part-item.is c.loop-part.invariant.memory c.loop-part.invariant.number c.loop-part.invariant.fitting in
     let returned : c.from_residual.result ≡ Err c.in_err-run_part.field-0.0 = search rules in
-    stopped c.args.choice parts i m now c.loop-part.number x _ _ _ c.args.store.now c.loop-part.store c.run_part.new.store t refl c.loop-part.invariant.wrote (c.in_err-run_part.ensures.stopped (sym returned ∙ is)) c.loop-part.invariant.counts
+    stopped c.args.choice parts i m now c.loop-part.number x _ _ _ c.args.store.now c.loop-part.store c.run_part.new.store t refl c.loop-part.invariant.wrote (c.in_err-run_part.ensures.stopped (sym returned ∙ is))
 
 pub returns-in_err-run_part-clause-broke : goal.returns-in_err-run_part-clause-broke
 returns-in_err-run_part-clause-broke g c = λ is.
@@ -38,7 +38,7 @@ returns-in_err-run_part-clause-broke g c = λ is.
     let x = c.part-item.result in
     let t : Turn parts i m now c.loop-part.number x = turn parts i m now c.loop-part.number x c.loop-part-test.true c.part-item.is c.loop-part.invariant.memory c.loop-part.invariant.number c.loop-part.invariant.fitting in
     let returned : c.from_residual.result ≡ Err c.in_err-run_part.field-0.0 = search rules in
-    broke c.args.choice parts i m now c.loop-part.number x _ _ _ t c.loop-part.invariant.wrote (c.in_err-run_part.ensures.broke (sym returned ∙ is))
+    broke c.args.choice parts i m now c.loop-part.number x _ _ _ c.args.store.now c.loop-part.store t c.loop-part.invariant.wrote (c.in_err-run_part.ensures.broke (sym returned ∙ is))
 
 pub loop-part-preserved : goal.loop-part-preserved
 loop-part-preserved g c =
@@ -53,7 +53,7 @@ loop-part-preserved g c =
     let number : c.number_behind-number.result ≡ number_behind x c.loop-part.number = c.number_behind-number.ensures in
     record {
       fitting = subst (λ n. each_fits n (drop (i + 1) parts) ≡ true) (sym after) t.fitting;
-      wrote = wrote_more c.args.choice parts i m now c.loop-part.number x _ _ _ t c.loop-part.invariant.wrote c.in_ok-run_part.ensures.wrote;
+      wrote = wrote_more c.args.choice parts i m now c.loop-part.number x _ _ _ c.args.store.now c.loop-part.store c.run_part.new.store t c.loop-part.invariant.wrote c.in_ok-run_part.ensures.wrote;
       memory = after ∙ t.memory;
       number = number ∙ t.number_is;
       few = let step : number_behind x c.loop-part.number ≤ c.loop-part.number + 1 = behind_most x c.loop-part.number in omega (arith, number, step, c.loop-part.invariant.few);

@@ -11,7 +11,7 @@ invariant-loop-part g l =
     let now = memory_of l.store in
     record {
       fitting : each_fits now (drop l.part-index l.parts) ≡ true;
-      wrote : PartsWrote l.choice before (take l.part-index l.parts) (g.K.Sink.written l.initial.sink) (g.K.Sink.written l.sink);
+      wrote : PartsWrote l.choice before (take l.part-index l.parts) (g.K.Sink.written l.initial.sink) (g.K.Sink.written l.sink) l.initial.store l.store;
       memory : now ≡ after_parts before (take l.part-index l.parts);
       number : l.number ≡ number_after 1 (take l.part-index l.parts);
       few : l.number ≤ l.part-index + 1;
