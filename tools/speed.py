@@ -42,20 +42,20 @@ def window(row, column):
 # A name; the operations on each number; how many numbers; the script's head, body and tail; the body for NumPy on arrays x, y, g and c; and the
 # expression for numexpr.
 KERNELS = [
-    ("ten additions", 10, MILLION, f"x = range({MILLION})\ny = x + 0\n", "y[:] = " + " + ".join(["x"] * 11) + "\n", "print y[7]\n",
+    ("ten additions", 10, MILLION, f"x = range({MILLION})\ny = x + 0\n", "y[:] = " + " + ".join(["x"] * 11) + "\n", "print y[7:8]\n",
      lambda a: numpy.copyto(a.y, a.x + a.x + a.x + a.x + a.x + a.x + a.x + a.x + a.x + a.x + a.x), " + ".join(["x"] * 11)),
-    ("mixed arithmetic", 8, MILLION, f"x = range({MILLION})\ny = x + 1\n", "y[:] = ((((y * 3 + x) - (x << 2)) & 1048575) * x >> 3) - y\n", "print y[7]\n",
+    ("mixed arithmetic", 8, MILLION, f"x = range({MILLION})\ny = x + 1\n", "y[:] = ((((y * 3 + x) - (x << 2)) & 1048575) * x >> 3) - y\n", "print y[7:8]\n",
      lambda a: numpy.copyto(a.y, ((((a.y * 3 + a.x) - (a.x << 2)) & 1048575) * a.x >> 3) - a.y), None),
     ("heat", 5, SIDE * SIDE, f"g = reshape(range({SIDE * SIDE}), [{SIDE},{SIDE}]) % 97\nc = g[{INSIDE},{INSIDE}] + 0\n",
-     f"c[:,:] = ({window(0, 1)} + {window(2, 1)} + {window(1, 0)} + {window(1, 2)}) / 4\ng[{INSIDE},{INSIDE}] = c\n", "print g[7,7]\n",
+     f"c[:,:] = ({window(0, 1)} + {window(2, 1)} + {window(1, 0)} + {window(1, 2)}) / 4\ng[{INSIDE},{INSIDE}] = c\n", "print g[7:8,7:8]\n",
      lambda a: heat(a), None),
     ("life on u8", 11, SIDE * SIDE, f"g = u8((reshape(range({SIDE * SIDE}), [{SIDE},{SIDE}]) * 7919) % 11 < 4)\nn = g[{INSIDE},{INSIDE}] + 0\n",
-     "n[:,:] = " + " + ".join(window(*at) for at in AROUND) + f"\ng[{INSIDE},{INSIDE}] = (n == 3) | ((n == 2) & {window(1, 1)})\n", "print g[7,7]\n",
+     "n[:,:] = " + " + ".join(window(*at) for at in AROUND) + f"\ng[{INSIDE},{INSIDE}] = (n == 3) | ((n == 2) & {window(1, 1)})\n", "print g[7:8,7:8]\n",
      lambda a: life(a), None),
     ("sum of squares", 2, MILLION, f"x = range({MILLION})\n", "s = sum(x * x, 0)\n", "print s\n", lambda a: (a.x * a.x).sum(), "sum(x * x)"),
-    ("running sum", 1, MILLION, f"x = range({MILLION})\ny = x + 1\n", "y[:] = cumsum(x, 0)\n", "print y[7]\n", lambda a: numpy.cumsum(a.x, out=a.y), None),
-    ("one addition", 1, MILLION, f"x = range({MILLION})\ny = x + 1\n", "y[:] = y + x\n", "print y[7]\n", lambda a: numpy.add(a.y, a.x, out=a.y), "y + x"),
-    ("overlapping copy", 1, MILLION, f"x = range({MILLION})\n", f"x[1:{MILLION}] = x[0:{MILLION - 1}]\n", "print x[7]\n",
+    ("running sum", 1, MILLION, f"x = range({MILLION})\ny = x + 1\n", "y[:] = cumsum(x, 0)\n", "print y[7:8]\n", lambda a: numpy.cumsum(a.x, out=a.y), None),
+    ("one addition", 1, MILLION, f"x = range({MILLION})\ny = x + 1\n", "y[:] = y + x\n", "print y[7:8]\n", lambda a: numpy.add(a.y, a.x, out=a.y), "y + x"),
+    ("overlapping copy", 1, MILLION, f"x = range({MILLION})\n", f"x[1:{MILLION}] = x[0:{MILLION - 1}]\n", "print x[7:8]\n",
      lambda a: a.x.__setitem__(slice(1, None), a.x[:-1]), None),
 ]
 
@@ -132,14 +132,14 @@ def growth(words):
     print("\nhow it grows                          ns a number and operation")
     for count in (1000, 10_000, 100_000, MILLION):
         bodies = max(1, 100_000 // count)
-        seconds = body_time(words, f"x = range({count})\ny = x + 1\n", ("y[:] = y + x + x + x\nflush\n" * bodies), "print y[7]\n") / bodies
+        seconds = body_time(words, f"x = range({count})\ny = x + 1\n", ("y[:] = y + x + x + x\nflush\n" * bodies), "print y[7:8]\n") / bodies
         row(f"{count} numbers", seconds, 3 * count)
-    for count in (1, 4, 16, 64, 250):
-        seconds = body_time(words, f"x = range({MILLION})\ny = x + 1\n", "y[:] = y" + " + x" * count + "\n", "print y[7]\n", 1, 4)
-        row(f"{count} operations in a block", seconds, count * MILLION)
+    for count in (1, 4, 16, 64):
+        seconds = body_time(words, "x = range(100000)\ny = x + 1\n", "y[:] = y" + " + x" * count + "\n", "print y[7:8]\n")
+        row(f"{count} operations in a block", seconds, count * 100_000)
     for length in (4, 10, 100, SIDE):
         rows = MILLION // length // 2
-        seconds = body_time(words, f"x = reshape(range({2 * rows * length}), [{rows},{2 * length}])\ny = x[:,0:{length}] + 1\n", f"y[:,:] = y + x[:,0:{length}] + x[:,{length}:{2 * length}]\n", "print y[0,0]\n")
+        seconds = body_time(words, f"x = reshape(range({2 * rows * length}), [{rows},{2 * length}])\ny = x[:,0:{length}] + 1\n", f"y[:,:] = y + x[:,0:{length}] + x[:,{length}:{2 * length}]\n", "print y[0:1,0:1]\n")
         row(f"rows of {length}, every second read", seconds, 2 * rows * length)
     for shape in ([MILLION], [SIDE, SIDE], [100, 100, 100], [32, 32, 32, 30]):
         lengths, count = ",".join(map(str, shape)), int(numpy.prod(shape)) if numpy else 0
@@ -152,8 +152,8 @@ def growth(words):
         seconds = body_time(words, f"x = reshape(range({count}), [{lengths}])\ny = x[{inner}] + 1\n", f"y[{','.join(':' * len(shape))}] = y + x[{inner}] + x[{inner}]\n", "")
         row(f"rank {len(shape)}", seconds, 2 * sub)
     chain = [f"t = x + x\n"] + ["t = t + x\n"] * 9
-    fused = body_time(words, f"x = range({MILLION})\n", "".join(chain), "print t[7]\n")
-    apart = body_time(words, f"x = range({MILLION})\n", "flush\n".join(chain), "print t[7]\n")
+    fused = body_time(words, f"x = range({MILLION})\n", "".join(chain), "print t[7:8]\n")
+    apart = body_time(words, f"x = range({MILLION})\n", "flush\n".join(chain), "print t[7:8]\n")
     row("ten additions, one block", fused, 10 * MILLION)
     row("ten additions, a block each", apart, 10 * MILLION)
 
