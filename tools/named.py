@@ -6,8 +6,8 @@ Read are README.md and docs/*.md:
   `Machine::walk.walks`), a definition or one of its fields or cases (`IsWhole.arrays`), and stands in a file of its row, to which
   there are links;
 - a table with the columns `definition` and `file`: the first word of each code span stands in one of the files of its row. A file that
-  begins with `specs/` or `src/` is one of the crate in the heading above;
-- the table with the columns `crate`, `stands on` and `promises`: the crates of the repository, and on which others each stands;
+  begins with `specs/` or `src/` is one of the crate in the heading above. Each file of definitions has a row in docs/MAP.md;
+- the table with the columns `crate`, `stands on` and `promises`: each crate of the repository, and on which others it stands;
 - `NAME` in CRATE, and CRATE, `NAME`: the name stands somewhere in that crate;
 - links to files, and paths that begin with the name of a folder at the top, but for those in commands: there is such a file.
 """
@@ -93,7 +93,7 @@ def known_crates():
 
 class Page:
     def __init__(self, path):
-        self.path, self.looked, self.faults, self.crates = path, 0, [], []
+        self.path, self.looked, self.faults, self.crates, self.shown = path, 0, [], [], set()
 
     def judge(self, number, holds, said):
         self.looked += 1
@@ -116,11 +116,22 @@ class Page:
     def file_of(self, path):
         """A file as a row names it: from the top, or of the crates in the heading."""
         tried = [path, f"crates/{path}", *(f"crates/{crate}/{path}" for crate in self.crates)]
-        return next((one for one in tried if is_file(one)), None)
+        found = next((one for one in tried if is_file(one)), None)
+        self.shown.add(found)
+        return found
+
+    def judge_map(self):
+        """Each crate has a row, and each file of definitions."""
+        for crate in known_crates():
+            self.judge(1, crate in self.shown, f"{crate} has no row")
+            for path in glob.glob(os.path.join(TOP, "crates", crate, "specs", "*.antt")):
+                file = os.path.relpath(path, TOP)
+                self.judge(1, file in self.shown or file.endswith("/Lib.antt"), f"{file} has no row")
 
     def judge_crate(self, number, row):
         crate = re.sub(r"\[(\w+)\].*", r"\1", row[0])
         rows = known_crates()
+        self.shown.add(crate)
         self.judge(number, crate in rows, f"{crate} is no crate")
         named = {name for name in re.findall(r"\w+", row[1])}
         if not named & {"all"}:
@@ -159,6 +170,8 @@ class Page:
             elif not line.startswith("|---"):
                 self.judge_row(number, heads, cells(line))
             self.judge_line(number, line)
+        if self.path == os.path.join("docs", "MAP.md"):
+            self.judge_map()
         return self
 
 
