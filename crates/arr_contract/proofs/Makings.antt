@@ -1,6 +1,6 @@
 -- Lanes of views and of constants, by their cells.
 use Rattle.std.proofs.Common.{◌≡◌, ℕ, zero, suc, ◌+◌, ◌*◌, ◌<◌, ◌≤◌, ℤ, pos, negsuc, List, [], ◌∷◌, ◌++◌, Bool, true, false, cond, not, ◌||◌, ◌&&◌, Option, Some, None, length, get_or, map, replicate, take, refl, ap, sym, subst, ◌∙◌, length-append, arith}
-use Rattle.std.specs.Prelude.{◌==◌, is_some, nat_le, slice_get}
+use Rattle.std.specs.Prelude.{◌==◌, is_some, slice_get}
 use Rattle.std.specs.List.{flat_map, list_all}
 use lib.IntN.{nat_abs}
 use Rattle.std.proofs.lemmas.Bool.{eqb-false, eqb-true, false≢true, ltb-true}
@@ -18,9 +18,7 @@ use Rattle.arr_ops.specs.declared.op.Operand.{Operand}
 use Rattle.arr_ops.specs.declared.op.Operand.TheVariants.{Array, Number}
 use Rattle.arr_ops.specs.Costs.{elem_of}
 use Rattle.arr_ops.specs.Formed.{elementwise, is_array, kind_kept, numbers_kept, numbers_of, operands_kept, types_kept, well_formed}
-use Rattle.arr_ops.proofs.Lengths.{positions_at}
 use Rattle.arr_ops.proofs.Spots.{operands_of}
-use Rattle.arr_view.proofs.Counting.{some_position}
 use Rattle.arr_ops.proofs.Tests.{both_left, both_right}
 use Rattle.arr_strips.specs.Blocks.{first_shape}
 use Rattle.arr_ops.specs.Memory.{Cell}

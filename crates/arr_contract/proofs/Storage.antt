@@ -1,18 +1,17 @@
 -- Registers of views one after another, places of operations, and the views that a walk stores.
-use Rattle.std.proofs.Common.{◌≡◌, ℕ, zero, suc, ◌+◌, ◌<◌, List, [], ◌∷◌, ◌++◌, Bool, true, false, cond, not, ◌||◌, Option, Some, None, length, get_or, take, drop, refl, ap, ap₂, sym, subst, ◌∙◌, arith}
-use Rattle.std.specs.List.{AllByRecursion, filter, flat_map, list_all, list_any}
+use Rattle.std.proofs.Common.{◌≡◌, ℕ, List, [], ◌∷◌, ◌++◌, Bool, true, false, cond, not, ◌||◌, Option, None, refl, ap, sym, ◌∙◌}
+use Rattle.std.specs.List.{AllByRecursion, filter, flat_map, list_all}
 use Rattle.std.specs.Option.{option_to_list}
 use Rattle.std.proofs.lemmas.Bool.{false≢true}
-use Rattle.arr_num.specs.Kinds.{folds, is_reduction, kind}
+use Rattle.arr_num.specs.Kinds.{folds, is_reduction}
 use Rattle.arr_view.specs.Strided.{Strided}
 use Rattle.arr_view.specs.Views.{has, identical}
 use Rattle.arr_ops.specs.declared.op.Op.{Op}
-use Rattle.arr_ops.specs.Costs.{distinct, total, writes}
+use Rattle.arr_ops.specs.Costs.{distinct, writes}
 use Rattle.arr_ops.specs.Formed.{well_formed}
 use Rattle.arr_ops.specs.Ops.{freed, freed_by, outputs}
-use Rattle.arr_ops.specs.Traffic.{kept_for}
 use Rattle.arr_ops.proofs.Tests.{all_of}
-use Rattle.arr_strips.specs.Blocks.{all_stores, stores}
+use Rattle.arr_strips.specs.Blocks.{stores}
 use Rattle.arr_strips.specs.Columns.{filled}
 use Rattle.arr_strips.proofs.Sorts.{sorts}
 

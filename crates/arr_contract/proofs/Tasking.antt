@@ -1,9 +1,8 @@
 -- The task of an operation, by its kind.
-use Rattle.std.proofs.Common.{◌≡◌, ℕ, ◌+◌, ◌*◌, ◌<◌, ◌≤◌, List, [], ◌∷◌, Bool, true, false, cond, not, ◌||◌, ◌&&◌, Option, Some, None, length, get_or, map, refl, ap, sym, subst, ◌∙◌, arith}
+use Rattle.std.proofs.Common.{◌≡◌, ℕ, ◌+◌, ◌*◌, ◌<◌, List, true, false, ◌||◌, Option, Some, None, length, get_or, map, refl, ap, sym, subst, ◌∙◌, arith}
 use Rattle.std.specs.Prelude.{is_none, is_some, slice_get}
-use Rattle.std.specs.List.{AllByRecursion, list_all}
+use Rattle.std.specs.List.{AllByRecursion}
 use Rattle.std.proofs.lemmas.Bool.{false≢true, true≢false}
-use Rattle.arr_num.specs.declared.elem.Elem.{Elem}
 use Rattle.arr_num.specs.declared.code.Code.{Code}
 use Rattle.arr_num.specs.declared.code.Code.TheVariants.{Range}
 use Rattle.arr_num.specs.Kinds.{Kind, Binary, Unary, Counting, Ending, Printing, Reduction, Scan, binds_one, binds_two, counts, folds, is_element_wise, is_fold, is_reduction, is_scan, kind, scans}
@@ -12,17 +11,17 @@ use Rattle.arr_ops.specs.declared.op.Op.{Op}
 use Rattle.arr_ops.specs.declared.op.Operand.{Operand}
 use Rattle.arr_ops.specs.declared.op.Operand.TheVariants.{Array, Number}
 use Rattle.arr_ops.specs.Costs.{elem_of}
-use Rattle.arr_ops.specs.Formed.{along_axis, dropped_axis, each_typed, elementwise, is_array, operands_kept, plain, well_formed}
+use Rattle.arr_ops.specs.Formed.{each_typed, elementwise, is_array, operands_kept, well_formed}
 use Rattle.arr_ops.specs.Ops.{inputs, outputs, view_of, views}
 use Rattle.arr_ops.proofs.Spots.{all_left, all_right, none_from, operands_of}
 use Rattle.arr_ops.proofs.Tests.{both_left, both_right}
 use Rattle.arr_store.specs.Buffers.{cell_of}
 use Rattle.arr_store.specs.declared.buffer.Buffer.{Buffer}
-use Rattle.arr_strips.specs.Registers.{number_in, register_views}
+use Rattle.arr_strips.specs.Registers.{register_views}
 use Rattle.arr_strips.specs.Strips.{loaded}
 use Rattle.arr_strips.proofs.Machine.{has_register}
-use Rattle.arr_strips.proofs.Sorts.{Freeing, Reducing, Showing, sorts}
-use Rattle.arr_machine.specs.Tasks.{Stands, TypedLanes}
+use Rattle.arr_strips.proofs.Sorts.{sorts}
+use Rattle.arr_machine.specs.Tasks.{Stands}
 use Rattle.arr_machine.proofs.Blocks.{all_get}
 use Rattle.arr_machine.proofs.Operands.{stands_typed}
 use Rattle.arr_machine.proofs.Types.{inputs_of_type}

@@ -1,20 +1,20 @@
 -- The views that a walk loads and stores are registers, and have as many positions as the block.
-use Rattle.std.proofs.Common.{◌≡◌, ℕ, List, [], ◌∷◌, ◌++◌, Bool, true, false, not, length, refl, ap, sym, ◌∙◌}
-use Rattle.std.specs.List.{AllByRecursion, filter, flat_map, list_all}
+use Rattle.std.proofs.Common.{◌≡◌, List, true, not, length, sym, ◌∙◌}
+use Rattle.std.specs.List.{AllByRecursion, filter}
 use Rattle.arr_view.specs.Strided.{Strided}
-use Rattle.arr_view.specs.Views.{elements, identical, is_view, positions}
+use Rattle.arr_view.specs.Views.{elements, identical, is_view}
 use Rattle.arr_ops.specs.declared.op.Op.{Op}
 use Rattle.arr_ops.specs.Costs.{reads}
 use Rattle.arr_ops.specs.Formed.{well_formed}
-use Rattle.arr_ops.specs.Ops.{creates, freed_by, inputs, outputs, serial, views}
+use Rattle.arr_ops.specs.Ops.{creates, freed_by, inputs, serial, views}
 use Rattle.arr_ops.proofs.Pairs.{All_filter, All_weaker}
 use Rattle.arr_ops.proofs.Parts.{length-elements}
 use Rattle.arr_ops.proofs.Spots.{all_left, all_right, all_two, views_of}
-use Rattle.arr_strips.specs.Blocks.{block_positions, block_shape, is_block, stores}
+use Rattle.arr_strips.specs.Blocks.{block_positions, block_shape, stores}
 use Rattle.arr_strips.specs.Columns.{filled}
 use Rattle.arr_strips.specs.Registers.{register_views}
 use Rattle.arr_strips.specs.Strips.{loaded}
-use Rattle.arr_strips.proofs.Blocks.{Block, block_of}
+use Rattle.arr_strips.proofs.Blocks.{Block}
 use Rattle.arr_strips.proofs.Machine.{has_register}
 use Rattle.arr_strips.proofs.Sames.{all_distinct, all_flat_map}
 use Rattle.arr_strips.proofs.Sorts.{AtShape, one_shape, walkings, walkings_of}

@@ -1,22 +1,17 @@
 -- A base has in a block the type that it has in the list.
-use Rattle.std.proofs.Common.{◌≡◌, ℕ, ◌+◌, List, [], ◌∷◌, ◌++◌, Bool, true, false, cond, map, not, ◌||◌, refl, ap, ap₂, sym, ◌∙◌}
-use Rattle.std.specs.Prelude.{◌==◌}
-use Rattle.std.specs.List.{AllByRecursion, filter, flat_map, list_all, list_any}
-use Rattle.std.proofs.lemmas.Bool.{eq-eqb, eqb-true, false≢true}
-use Rattle.std.proofs.lemmas.List.Folds.{list_any-append}
+use Rattle.std.proofs.Common.{◌≡◌, ℕ, ◌+◌, List, [], ◌∷◌, ◌++◌, true, map, not, refl, ap, ap₂, sym, ◌∙◌}
+use Rattle.std.specs.List.{AllByRecursion, filter, list_all}
 use Rattle.arr_num.specs.declared.elem.Elem.{Elem}
 use Rattle.arr_view.specs.Strided.{Strided}
 use Rattle.arr_view.specs.Views.{identical}
 use Rattle.arr_ops.specs.declared.op.Op.{Op}
-use Rattle.arr_ops.specs.Costs.{all_reads, all_writes, distinct, elem_in, elem_of, total, weight, weight_of}
-use Rattle.arr_ops.specs.Formed.{is_formed, same_elem, same_types, typed}
+use Rattle.arr_ops.specs.Costs.{all_reads, all_writes, distinct, elem_of, total, weight, weight_of}
+use Rattle.arr_ops.specs.Formed.{is_formed, same_types, typed}
 use Rattle.arr_ops.specs.Ops.{creates, freed, freed_by, inputs, outputs}
-use Rattle.arr_ops.specs.Order.{In}
 use Rattle.arr_ops.specs.Plans.{numbered, ops_of}
-use Rattle.arr_ops.proofs.Members.{all_in, false_any, in_all}
 use Rattle.arr_ops.proofs.Pairs.{All_filter, All_weaker}
-use Rattle.arr_ops.proofs.Spots.{Formed, all_left, all_mapped, all_right, all_two, formed_of, same_elem_is}
-use Rattle.arr_ops.proofs.Tests.{all_numbered, all_of, or_cases}
+use Rattle.arr_ops.proofs.Spots.{Formed, all_left, all_mapped, all_right, all_two, formed_of}
+use Rattle.arr_ops.proofs.Tests.{all_numbered, all_of}
 use Rattle.arr_strips.proofs.Legal.{all_ops}
 use Rattle.arr_strips.proofs.Sames.{all_flat_map}
 use Rattle.arr_machine.proofs.Types.{types_agree}

@@ -1,13 +1,13 @@
 -- The numbers at one position of views, what is loaded for one result, and numbers written at places.
-use Rattle.std.specs.Prelude.{ℕ, ℤ, suc, ◌*◌, nat_lt, Bool, false, cond, List, drop, length, Option, Some}
+use Rattle.std.specs.Prelude.{ℕ, ℤ, ◌*◌, nat_lt, Bool, false, cond, List, length, Option, Some}
 use Rattle.std.specs.List.{list_all}
 use Rattle.arr_num.specs.Kinds.{is_reduction}
 use Rattle.arr_num.specs.Numbers.{width}
 use Rattle.arr_view.specs.Strided.{Strided}
-use Rattle.arr_view.specs.Views.{identical, positions}
+use Rattle.arr_view.specs.Views.{identical}
 use Rattle.arr_ops.specs.declared.op.Op.{Op}
 use Rattle.arr_ops.specs.Costs.{distinct}
-use Rattle.arr_ops.specs.Memory.{Cell, Writes, changed, lengths_of, or_zero}
+use Rattle.arr_ops.specs.Memory.{Cell, Writes, changed}
 use Rattle.arr_ops.specs.Ops.{array_of, inputs}
 use Rattle.arr_ops.specs.Traffic.{axis_length}
 use Rattle.arr_store.specs.Cells.{assigned, number_at, size_at}

@@ -1,4 +1,4 @@
-use Rattle.std.proofs.Common.{◌≡◌, ◌∙◌, ◌+◌, ◌<◌, ◌≤◌, length, get_or, ap, subst, sym, refl, arith}
+use Rattle.std.proofs.Common.{◌≡◌, ◌∙◌, ◌+◌, ◌<◌, ◌≤◌, length, get_or, ap, subst, sym, arith}
 use Rattle.std.proofs.lemmas.List.{get_or_default, length-append}
 use Rattle.arr_view.specs.Strided.{Strided}
 use Rattle.arr_machine.specs.Ports.{IsPort}

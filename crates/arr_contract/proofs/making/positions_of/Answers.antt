@@ -1,6 +1,5 @@
-use Rattle.std.proofs.Common.{◌≡◌, ◌∙◌, ◌+◌, ◌∷◌, [], List, ℕ, ap, drop, map, refl, sym, true}
-use Rattle.std.proofs.lemmas.List.{at_drop_all, at_drop_more}
-use Rattle.arr_view.specs.Views.{positions}
+use Rattle.std.proofs.Common.{◌≡◌, ◌∙◌, ◌+◌, ◌∷◌, List, ap, drop, sym, true}
+use Rattle.std.proofs.lemmas.List.{at_drop_more}
 use Rattle.arr_ops.specs.Formed.{well_formed}
 use Rattle.arr_ops.specs.Ops.{walked}
 use Rattle.arr_ops.specs.declared.op.Op.{Op}

@@ -1,4 +1,4 @@
-use Rattle.std.proofs.Common.{◌≡◌, ◌<◌, ◌≤◌, length, ap, subst, sym, arith}
+use Rattle.std.proofs.Common.{◌<◌, ◌≤◌, length, subst, sym, arith}
 use Rattle.arr_ops.specs.Memory.{lengths_of, or_zero}
 use Rattle.arr_machine.proofs.Axes.{axis_inside_it}
 use Rattle.arr_contract.proofs.Makings.{number_most}

@@ -1,4 +1,4 @@
-use Rattle.std.proofs.Common.{◌≡◌, ◌≤◌, length, subst, sym, arith}
+use Rattle.std.proofs.Common.{◌≤◌, length, subst, sym, arith}
 use Rattle.arr_contract.proofs.Makings.{number_most}
 use Rattle.arr_contract.proofs.tasks.lane_of.Goals as goal
 

@@ -1,4 +1,4 @@
-use Rattle.std.proofs.Common.{◌≡◌, ◌∙◌, ◌+◌, ◌*◌, ◌<◌, ◌≤◌, ℕ, length, get_or, ap, sym, subst, arith, refl}
+use Rattle.std.proofs.Common.{◌≡◌, ◌∙◌, ◌+◌, ◌*◌, ◌<◌, ◌≤◌, length, get_or, ap, sym, arith}
 use Rattle.std.proofs.lemmas.List.{length-append}
 use Rattle.arr_ops.specs.Traffic.{kept_for}
 use Rattle.arr_strips.specs.Registers.{register_views}
