@@ -18,6 +18,9 @@ macro_rules! table {
 
 // One closure for each divisor that is often written, so that the compiler divides by it with a multiplication and shifts.
 macro_rules! by_divisor {
+    ($code:expr, $out:expr, $a:expr, $b:expr, $count:expr) => {
+        by_divisor!($code, $out, $a, $b, $count, 2, 3, 4, 5, 6, 7, 8, 10, 16, 97, 100, 1000)
+    };
     ($code:expr, $out:expr, $a:expr, $b:expr, $count:expr, $($divisor:literal),*) => {
         match one_number($b, $count) {
             $(Some($divisor) => map_with(
@@ -34,7 +37,7 @@ macro_rules! by_divisor {
     };
 }
 
-// The greatest divisor with a loop of its own.
+// The greatest of these divisors.
 const GREATEST_DIVISOR: u64 = 1000;
 
 /// The first `count` values of a code whose result has the type of its inputs, from those of `a` and `b` (docs/LANGUAGE.md,
@@ -73,7 +76,7 @@ pub fn compute<T: Native>(code: Code, out: &mut [T], a: &[T], b: &[T], count: us
     }
 }
 
-/// The first `count` values of DIVIDE.
+/// The first `count` values of DIVIDE (docs/LANGUAGE.md, "Opcodes").
 fn divide<T: Native>(out: &mut [T], a: &[T], b: &[T], count: usize)
     requires out { count ≤ length out.old }
     requires a { count ≤ length a.now }
@@ -81,28 +84,10 @@ fn divide<T: Native>(out: &mut [T], a: &[T], b: &[T], count: usize)
     ensures length { length out.new ≡ length out.old }
     ensures each { (i : ℕ) → i < count → entry T.number out.new i ≡ value Code.Divide T.elem (entry T.number a.now i) (entry T.number b.now i) }
 {
-    by_divisor!(
-        Code::Divide,
-        out,
-        a,
-        b,
-        count,
-        2,
-        3,
-        4,
-        5,
-        6,
-        7,
-        8,
-        10,
-        16,
-        97,
-        100,
-        1000
-    )
+    by_divisor!(Code::Divide, out, a, b, count)
 }
 
-/// The first `count` values of MOD.
+/// The first `count` values of MOD (docs/LANGUAGE.md, "Opcodes").
 fn remain<T: Native>(out: &mut [T], a: &[T], b: &[T], count: usize)
     requires out { count ≤ length out.old }
     requires a { count ≤ length a.now }
@@ -110,28 +95,10 @@ fn remain<T: Native>(out: &mut [T], a: &[T], b: &[T], count: usize)
     ensures length { length out.new ≡ length out.old }
     ensures each { (i : ℕ) → i < count → entry T.number out.new i ≡ value Code.Mod T.elem (entry T.number a.now i) (entry T.number b.now i) }
 {
-    by_divisor!(
-        Code::Mod,
-        out,
-        a,
-        b,
-        count,
-        2,
-        3,
-        4,
-        5,
-        6,
-        7,
-        8,
-        10,
-        16,
-        97,
-        100,
-        1000
-    )
+    by_divisor!(Code::Mod, out, a, b, count)
 }
 
-/// The bits of the first `count` numbers of `b`, if all are one number and it's no greater than `GREATEST_DIVISOR`.
+/// The bits of the first `count` numbers of `b`, if they are one number throughout that may have a loop of its own.
 fn one_number<T: Native>(b: &[T], count: usize) -> Option<u64>
     requires { count ≤ length b.now }
     ensures { IfSome result (λ bits. (i : ℕ) → i < count → entry T.number b.now i ≡ wrap T.elem (pos bits)) }
