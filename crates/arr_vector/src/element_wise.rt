@@ -1,5 +1,5 @@
-ghost use Rattle.std.specs.Prelude.{◌≡◌, ℕ, ◌<◌, ◌≤◌, ◌+◌, IsTrue, length, pos};
-ghost use Rattle.arr_num.specs.Numbers.{value};
+ghost use Rattle.std.specs.Prelude.{◌≡◌, ℕ, ◌<◌, ◌≤◌, ◌+◌, IfSome, IsTrue, length, pos};
+ghost use Rattle.arr_num.specs.Numbers.{value, wrap};
 ghost use Rattle.arr_native.specs.Entries.{entry};
 ghost use Rattle.arr_vector.specs.Sorts.{is_arithmetic, is_comparison};
 
@@ -16,6 +16,30 @@ macro_rules! table {
     };
 }
 
+// One closure for each divisor that is often written, so that the compiler divides by it with a multiplication and shifts.
+macro_rules! by_divisor {
+    ($code:expr, $out:expr, $a:expr, $b:expr, $count:expr) => {
+        by_divisor!($code, $out, $a, $b, $count, 2, 3, 4, 5, 6, 7, 8, 10, 16, 97, 100, 1000)
+    };
+    ($code:expr, $out:expr, $a:expr, $b:expr, $count:expr, $($divisor:literal),*) => {
+        match one_number($b, $count) {
+            $(Some($divisor) => map_with(
+                $code,
+                $out,
+                $a,
+                $b,
+                $count,
+                $divisor,
+                |x| T::compute($code, x, T::from_bits($divisor)),
+            ),)*
+            _ => zip_with($code, $out, $a, $b, $count, |x, y| T::compute($code, x, y)),
+        }
+    };
+}
+
+// The greatest of these divisors.
+const GREATEST_DIVISOR: u64 = 1000;
+
 /// The first `count` values of a code whose result has the type of its inputs, from those of `a` and `b` (docs/LANGUAGE.md,
 /// "Opcodes"). A unary code takes no notice of `b`.
 pub fn compute<T: Native>(code: Code, out: &mut [T], a: &[T], b: &[T], count: usize)
@@ -26,28 +50,71 @@ pub fn compute<T: Native>(code: Code, out: &mut [T], a: &[T], b: &[T], count: us
     ensures length { length out.new ≡ length out.old }
     ensures each { (i : ℕ) → i < count → entry T.number out.new i ≡ value code T.elem (entry T.number a.now i) (entry T.number b.now i) }
 {
-    table!(
-        T::compute,
-        code,
-        out,
-        a,
-        b,
-        count,
-        Add,
-        Subtract,
-        Multiply,
-        Divide,
-        Mod,
-        Maximum,
-        Minimum,
-        BitwiseAnd,
-        BitwiseOr,
-        BitwiseXor,
-        LeftShift,
-        RightShift,
-        Absolute,
-        Invert
-    )
+    match code {
+        Code::Divide => divide(out, a, b, count),
+        Code::Mod => remain(out, a, b, count),
+        _ => table!(
+            T::compute,
+            code,
+            out,
+            a,
+            b,
+            count,
+            Add,
+            Subtract,
+            Multiply,
+            Maximum,
+            Minimum,
+            BitwiseAnd,
+            BitwiseOr,
+            BitwiseXor,
+            LeftShift,
+            RightShift,
+            Absolute,
+            Invert
+        ),
+    }
+}
+
+/// The first `count` values of DIVIDE (docs/LANGUAGE.md, "Opcodes").
+fn divide<T: Native>(out: &mut [T], a: &[T], b: &[T], count: usize)
+    requires out { count ≤ length out.old }
+    requires a { count ≤ length a.now }
+    requires b { count ≤ length b.now }
+    ensures length { length out.new ≡ length out.old }
+    ensures each { (i : ℕ) → i < count → entry T.number out.new i ≡ value Code.Divide T.elem (entry T.number a.now i) (entry T.number b.now i) }
+{
+    by_divisor!(Code::Divide, out, a, b, count)
+}
+
+/// The first `count` values of MOD (docs/LANGUAGE.md, "Opcodes").
+fn remain<T: Native>(out: &mut [T], a: &[T], b: &[T], count: usize)
+    requires out { count ≤ length out.old }
+    requires a { count ≤ length a.now }
+    requires b { count ≤ length b.now }
+    ensures length { length out.new ≡ length out.old }
+    ensures each { (i : ℕ) → i < count → entry T.number out.new i ≡ value Code.Mod T.elem (entry T.number a.now i) (entry T.number b.now i) }
+{
+    by_divisor!(Code::Mod, out, a, b, count)
+}
+
+/// The bits of the first `count` numbers of `b`, if they are one number throughout that may have a loop of its own.
+fn one_number<T: Native>(b: &[T], count: usize) -> Option<u64>
+    requires { count ≤ length b.now }
+    ensures { IfSome result (λ bits. (i : ℕ) → i < count → entry T.number b.now i ≡ wrap T.elem (pos bits)) }
+{
+    if count == 0 {
+        return None;
+    }
+    let bits = b[0].bits();
+    if bits > GREATEST_DIVISOR {
+        return None;
+    }
+    let mut same = true;
+    for i in 0..count {
+        same &= b[i].itself().bits() == bits;
+    }
+    if same { Some(bits) } else { None }
 }
 
 /// The first `count` values of a comparison, from those of `a` and `b` (docs/LANGUAGE.md, "Opcodes"): 1 where it holds, else 0.
@@ -131,5 +198,30 @@ fn zip_with<T: Native, U: Native, F: Fn(T, T) -> U>(
 {
     for i in 0..count {
         out[i] = f(a[i], b[i]);
+    }
+}
+
+/// Calls `f`, which gives the values of a code at a second number that does not change, at the first `count` numbers of a list. That
+/// number is the one with the bits `_bits`, at each place of `_b`.
+#[inline(always)]
+fn map_with<T: Native, U: Native, F: Fn(T) -> U>(
+    _code: Code,
+    out: &mut [U],
+    a: &[T],
+    _b: &[T],
+    count: usize,
+    _bits: u64,
+    f: F,
+)
+    requires out { count ≤ length out.old }
+    requires a { count ≤ length a.now }
+    requires constant { (i : ℕ) → i < count → entry T.number _b.now i ≡ wrap T.elem (pos _bits) }
+    requires callable { F.IsAlwaysCallable f }
+    requires values { (x : T) (z : U) → F.post f x z → U.number z ≡ value _code U.elem (T.number x) (wrap T.elem (pos _bits)) }
+    ensures length { length out.new ≡ length out.old }
+    ensures each { (i : ℕ) → i < count → entry U.number out.new i ≡ value _code U.elem (entry T.number a.now i) (entry T.number _b.now i) }
+{
+    for i in 0..count {
+        out[i] = f(a[i]);
     }
 }
