@@ -1,21 +1,16 @@
--- Every script is short, and is read.
+-- Every script is short, and has few rows, columns and turns.
 use Rattle.std.proofs.Common.{◌≡◌, ℕ, zero, suc, ◌+◌, ◌*◌, ◌/◌, ◌%◌, ◌≤◌, List, [], ◌∷◌, ◌++◌, length, refl, ap, arith, Bool, true, nat_le, ◌∙◌, length-append}
 use Rattle.std.specs.List.{flat_map, list_all}
 use Rattle.std.proofs.lemmas.Bool.{and_parts, leb-true}
 use Rattle.std.proofs.lemmas.Fmt.{length-decimal-le}
 use Rattle.rand_core.specs.Steps.{first_words}
-use Rattle.rand_core.specs.Pcg32Seed.{pcg32_seed}
 use Rattle.rand_pcg.specs.Lcg.{Lcg}
-use Rattle.rand_pcg.specs.Pcg.{pcg32, pcg32_of_seed}
-use Rattle.arr_syntax.specs.declared.tree.Statement.{Statement}
-use Rattle.arr_syntax.specs.Refused.{IsScript}
-use Rattle.arr_syntax.specs.Tokens.{tokens}
+use Rattle.rand_pcg.specs.Pcg.{pcg32}
 use Rattle.arr_demo.specs.Script.{script_by, word, behind, drawn_script}
-use Rattle.arr_demo.specs.Laws.{ScriptsAreRead, most_bytes}
+use Rattle.arr_demo.specs.Laws.{most_bytes}
 use Rattle.arr_demo.proofs.Pieces as piece
 use Rattle.arr_demo.proofs.Pieces.{Piece, spell, spelled}
 use Rattle.arr_demo.proofs.Lines.{closing_pieces, turn_pieces, turn_of, script_pieces, script_is}
-use Rattle.arr_demo.proofs.Trees.{script_trees, script_read}
 
 -- ---- lengths
 
@@ -68,7 +63,7 @@ module _ (rows columns : ℕ) (r : rows ≤ 64) (c : columns ≤ 64) where
       by_form (suc (suc (suc zero))) added h = omega arith
       by_form (suc (suc (suc (suc n)))) added h = omega arith
 
-  script_short : (words : List ℕ) → length words ≤ 16 → length (script_by rows columns words) ≤ most_bytes
+  pub script_short : (words : List ℕ) → length words ≤ 16 → length (script_by rows columns words) ≤ most_bytes
   script_short words few =
       let s = all_short (script_pieces rows columns r c words) (turns_short words) in
       let l : length (script_pieces rows columns r c words) ≡ 24 + length (flat_map (turn_of rows columns r c) words ++ closing_pieces) = omega arith in
@@ -91,11 +86,3 @@ of_drawn P each first =
     go a b n g =
         each (8 + a % 57) (8 + b % 57) (first_words pcg32 (4 + n % 13) g) (omega arith) (omega arith) (omega arith) (omega arith)
         (omega (arith, words_count (4 + n % 13) g))
-
-pub scripts_are_read : ScriptsAreRead
-scripts_are_read number =
-    of_drawn (λ (text : List ℕ). (length text ≤ most_bytes) × (statements : List Statement) × IsScript (tokens text) statements)
-    (λ rows columns words tall r wide c few.
-    let read = script_read rows columns r c words in
-    (script_short rows columns r c words few, script_trees rows columns words read.0, read.1))
-    (pcg32_of_seed (pcg32_seed 16 number))
