@@ -1,9 +1,10 @@
 """Lists of operations as docs/PLANS.md has them, apart from the program: recording, rewriting, dependence, fusibility and cost.
-For tools/check_proof.py and tools/fuzz.py."""
+For tools/check_proof.py and tools/fuzz.py. By itself, `lists.py SCRIPT` prints the lists of a script as they are recorded."""
 import functools
+import sys
 
 from evaluate import VALUES
-from steps import BITS, Op, View, count, elements, greatest, least, wrap
+from steps import BITS, Op, View, count, elements, greatest, least, steps_of, wrap
 
 MOST_OPS = 256
 
@@ -271,3 +272,16 @@ class Problem:
         if any(place[f] == place[g] for f, g in self.apart):
             return "NotFusible"
         return "Backward" if any(place[f] > place[g] for f, g in self.before) else None
+
+
+def main(words):
+    if len(words) != 1:
+        sys.exit("usage: lists.py SCRIPT")
+    with open(words[0], "rb") as file:
+        lists = lists_of(steps_of(file.read()))
+    for ops in lists:
+        print("".join(f"{f} {line_of(op)}\n" for f, op in enumerate(ops, 1)), end="")
+
+
+if __name__ == "__main__":
+    main(sys.argv[1:])

@@ -4,9 +4,9 @@
 usage: report.py [--svg=N] [LISTING]
 
 LISTING, or standard input, is what `bohrium run --plan` or `--cert` writes. Written out is one page of HTML that needs no other file; with
---svg=N only the picture of flush N. In a picture a column is a block, in order from left to right and row by row,
-and a line in it an operation. Arrows go from an operation to those that
-depend on it: the others follow from these. A base in colour with a small circle is contracted: no buffer is made for it.
+--svg=N only the picture of flush N. In a picture a box is a block, in order from left to right and row by row, and a line in it an
+operation; a block of many has several columns. Arrows go from an operation to those that depend on it: the others follow from these.
+Between blocks that are not side by side they run in the gaps. A base in colour with a small circle is contracted: no buffer is made for it.
 """
 import html
 import re
@@ -15,8 +15,8 @@ import sys
 from lists import Problem, inputs, serial
 from steps import Op, View, in_order
 
-LINE, GLYPH, GAP, HEAD, PAD, LEFT = 17, 6.7, 46, 62, 8, 32
-NARROWEST, WIDEST, WIDEST_ROW = 150, 360, 1260
+LINE, GLYPH, GAP, HEAD, PAD, LEFT = 17, 6.7, 46, 62, 8, 40
+NARROWEST, WIDEST, WIDEST_ROW, FEW_LINES, MOST_COLUMNS = 150, 400, 1260, 40, 3
 MOST_LEAVES, MOST_HEAD = 12, 100
 
 STYLE = """
@@ -24,7 +24,7 @@ text { font: 11px ui-monospace, 'DejaVu Sans Mono', Menlo, Consolas, monospace; 
 .box { fill: #ffffff; stroke: #9fb0c0; } .head { fill: #e9eff5; stroke: #9fb0c0; } .name { font-weight: bold; } .note { fill: #51606e; }
 .reads { fill: #3b7dd8; } .writes { fill: #d9822b; } .free { fill: #8a97a3; } .number { fill: #8a97a3; } .made { fill: #0b7a6b; font-weight: bold; }
 .serial { fill: #b3261e; } .sync { fill: #6a3fb5; } .arrow { fill: none; stroke: #5b7fa6; stroke-width: 1.1; opacity: .8; }
-.far { opacity: .3; } .arrow:hover { stroke-width: 3; opacity: 1; }
+.far { opacity: .55; stroke-linejoin: round; } .arrow:hover { stroke-width: 3; opacity: 1; }
 .inner { fill: none; stroke: #b9c6d2; stroke-width: 1; }
 """
 PAGE = """<!DOCTYPE html>
@@ -174,12 +174,19 @@ class Column:
         self.read, self.written = moved(problem, block)
         self.note = f"reads {bytes_text(self.read)}, writes {bytes_text(self.written)}"
         longest = max(len(op_text(op, self.contracted)) + 9 * serial(op) for op in ops)
-        self.width = min(max(NARROWEST, 60 + GLYPH * longest, 16 + GLYPH * len(self.note)), WIDEST)
-        self.height = HEAD + LINE * len(block) + PAD
+        self.column = min(max(NARROWEST, 60 + GLYPH * longest), WIDEST)
+        self.columns = min(-(-len(block) // FEW_LINES), MOST_COLUMNS)
+        self.lines = -(-len(block) // self.columns)
+        self.width = max(self.column * self.columns, 16 + GLYPH * len(self.note))
+        self.height = HEAD + LINE * self.lines + PAD
+
+    def column_at(self, f):
+        """The left edge of the column where the line of an operation stands."""
+        return self.left + self.column * (self.block.index(f) // self.lines)
 
     def line_at(self, f):
         """The middle of the line of an operation."""
-        return self.top + HEAD + LINE * self.block.index(f) + 6
+        return self.top + HEAD + LINE * (self.block.index(f) % self.lines) + 6
 
     def drawn(self, problem, most):
         x, y, width = self.left, self.top, self.width
@@ -189,31 +196,72 @@ class Column:
                  text_at(x + 8, y + 30, self.note, "note")]
         for row, (part, kind) in enumerate([(self.read, "reads"), (self.written, "writes")]):
             parts.append(f'<rect class="{kind}" x="{x + 8:.0f}" y="{y + 38 + 6 * row}" width="{(width - 16) * part / max(most, part):.1f}" height="4"/>')
-        return "".join(parts + [op_line(problem, f, x, self.line_at(f) + 4, self.contracted, width) for f in self.block])
+        return "".join(parts + [op_line(problem, f, self.column_at(f), self.line_at(f) + 4, self.contracted, self.column) for f in self.block])
 
 
 def place_columns(columns):
-    """Puts the columns side by side, in as many rows as it takes. The width and height of them all."""
-    left, top, wide, tall = LEFT, PAD, 0, 0
+    """Puts the blocks side by side, in as many rows as it takes. The width and height of them all."""
+    rows, left = [], WIDEST_ROW
     for column in columns:
-        if left > LEFT and left + column.width > WIDEST_ROW:
-            left, top = LEFT, tall + GAP - PAD
-        column.left, column.top = left, top
-        left += column.width + GAP
-        wide, tall = max(wide, column.left + column.width), max(tall, top + column.height)
-    return wide + PAD, tall + PAD
+        if not rows or left > LEFT and left + column.width > WIDEST_ROW:
+            rows.append([])
+            left = LEFT
+        rows[-1].append(column)
+        column.left, left = left, left + column.width + GAP
+    top = PAD
+    for number, row in enumerate(rows):
+        floor = top + max(column.height for column in row)
+        for column in row:
+            column.top, column.row, column.floor = top, number, floor
+        top = floor + GAP
+    return max([column.left + column.width for column in columns], default=LEFT) + GAP, top - GAP + PAD
+
+
+def arrow_inside(column, f, g):
+    """From one operation of a block to another that depends on it, where both stand in one column."""
+    left, y, to_y = column.column_at(f), column.line_at(f), column.line_at(g)
+    if left != column.column_at(g):
+        return ""
+    bend = min(12, 3 + (to_y - y) // LINE)
+    return (f'<path class="inner" d="M{left + 14:.0f} {y} C{left + 14 - bend:.0f} {y} {left + 14 - bend:.0f} {to_y} {left + 14:.0f} {to_y}">'
+            f"<title>{f} before {g}</title></path>")
+
+
+def way_out(column, f, gap, side):
+    """The corners from an operation to the gap between rows at this height: by the right edge, or of a block of several columns from below."""
+    if column.columns > 1:
+        across = column.column_at(f) + 50 + side
+        return [(across, column.top + column.height), (across, gap)]
+    right, y = column.left + column.width, column.line_at(f)
+    return [(right, y), (right + 6 + side // 2, y), (right + 6 + side // 2, gap)]
+
+
+def way_in(column, g, gap, side):
+    """The corners from a gap to an operation: by the left edge, or of a block of several columns from the gap's side."""
+    if column.columns > 1:
+        across = column.column_at(g) + 50 + side
+        return [(across, gap), (across, column.top - 2 if gap < column.top else column.top + column.height + 2)]
+    across, y = column.left - 12 - side // 2, column.line_at(g)
+    return [(across, gap), (across, y), (column.left - 2, y)]
+
+
+def is_beside(column, to):
+    """Whether an arrow goes straight from one block to the other."""
+    return to.number == column.number + 1 and to.row == column.row and column.columns == to.columns == 1
 
 
 def arrow(column, f, to, g):
-    """From one operation to another that depends on it."""
-    left, y, to_left, to_y = column.left, column.line_at(f), to.left, to.line_at(g)
-    title = f"<title>{f} before {g}</title>"
-    if to is column:
-        bend = min(12, 3 + (to_y - y) // LINE)
-        return f'<path class="inner" d="M{left + 14:.0f} {y} C{left + 14 - bend:.0f} {y} {left + 14 - bend:.0f} {to_y} {left + 14:.0f} {to_y}">{title}</path>'
-    right, far = left + column.width, "" if to.number == column.number + 1 and to.top == column.top else " far"
-    return (f'<path class="arrow{far}" marker-end="url(#tip)" d="M{right:.0f} {y} C{right + 26:.0f} {y} {to_left - 26:.0f} {to_y} {to_left - 2:.0f} {to_y}">'
-            f"{title}</path>")
+    """From one operation to another of a later block that depends on it: to the block beside it, or through the gaps between rows, and
+    along the left edge where rows lie between."""
+    title, side = f"<title>{f} before {g}</title>", 4 * (column.number % 7)
+    if is_beside(column, to):
+        right, y, left, to_y = column.left + column.width, column.line_at(f), to.left, to.line_at(g)
+        return f'<path class="arrow" marker-end="url(#tip)" d="M{right:.0f} {y} C{right + 26:.0f} {y} {left - 26:.0f} {to_y} {left - 2:.0f} {to_y}">{title}</path>'
+    below = column.floor + 8 + side
+    above = below if to.row == column.row else to.top - GAP + 8 + side
+    edge = [] if above == below else [(4 + side, below), (4 + side, above)]
+    corners = [*way_out(column, f, below, side), *edge, *way_in(to, g, above, side)]
+    return f'<path class="arrow far" marker-end="url(#tip)" d="M{" L".join(f"{x:.0f} {y:.0f}" for x, y in corners)}">{title}</path>'
 
 
 def picture(flush):
@@ -225,7 +273,9 @@ def picture(flush):
     of = {f: column for column in columns for f in column.block}
     pairs = needed_pairs(problem)
     arrows = [arrow(of[f], f, of[g], g) for f, g in pairs if of[f] is not of[g]]
-    inner = [arrow(of[f], f, of[g], g) for f, g in pairs if of[f] is of[g]]
+    if any(of[f].row == columns[-1].row and of[f] is not of[g] and not is_beside(of[f], of[g]) for f, g in pairs):
+        tall += GAP - PAD
+    inner = [arrow_inside(of[f], f, g) for f, g in pairs if of[f] is of[g]]
     return (f'<svg xmlns="http://www.w3.org/2000/svg" width="{wide:.0f}" height="{tall}" viewBox="0 0 {wide:.0f} {tall}">'
             f'<style>{STYLE}</style><defs><marker id="tip" viewBox="0 0 8 8" refX="7" refY="4" markerWidth="7" markerHeight="7" orient="auto">'
             f'<path d="M0 0L8 4L0 8z" fill="#5b7fa6"/></marker></defs><rect width="{wide:.0f}" height="{tall}" fill="#f8fafc"/>\n'
@@ -292,10 +342,10 @@ def section_of(flush):
 def page_of(flushes):
     heads = ["flush", "recorded", "rewritten", "blocks", "bytes moved", "one operation at a time", "less by", "bound"]
     table = "<table><tr>" + "".join(f"<th>{head}</th>" for head in heads) + "</tr>\n" + "".join(map(row_of, flushes)) + "</table>\n"
-    legend = ("<p>A column is a block, and blocks run from left to right, row by row. In a block operations run from top to bottom. An arrow goes from an operation to one "
-              "that depends on it; those that follow from others are left out. <b style=\"color:#0b7a6b\">b3°</b> is contracted: made and freed in the block, "
-              "without a buffer. Bars show <span style=\"color:#3b7dd8\">bytes read</span> and <span style=\"color:#d9822b\">bytes written</span>; a view that is "
-              "both is moved once.</p>\n")
+    legend = ("<p>A box is a block, and blocks run from left to right, row by row. In a block operations run from top to bottom, and then in the next column. An arrow goes from an "
+              "operation to one that depends on it; those that follow from others are left out, and within a block those from one column to another. "
+              "<b style=\"color:#0b7a6b\">b3°</b> is contracted: made and freed in the block, without a buffer. Bars show "
+              "<span style=\"color:#3b7dd8\">bytes read</span> and <span style=\"color:#d9822b\">bytes written</span>; a view that is both is moved once.</p>\n")
     return PAGE + table + legend + "".join(map(section_of, flushes)) + "</body></html>\n"
 
 

@@ -4,7 +4,7 @@
 examples/NAME.bh is run, and must print examples/NAME.out. The words are `run`, or those of its first line where this is a comment
 `# ./bohrium WORDS < examples/NAME.bh`.
 
-In README.md, docs/LANGUAGE.md and docs/CERTIFICATES.md are run:
+In README.md, docs/LANGUAGE.md, docs/PLANS.md and docs/CERTIFICATES.md are run:
 - a fenced block `bohrium`, a script; the next fenced block, `output`, is all that it prints. The status must be 1 where that is a
   refusal, else 0;
 - a fenced block `console`: each line that begins with `$ ` is a command for bash in the top folder, and the lines up to the next
@@ -13,19 +13,23 @@ In README.md, docs/LANGUAGE.md and docs/CERTIFICATES.md are run:
   prints;
 - each row of a table whose last three columns are headed `command`, `status` and `writes`: the command is one for bash in the top
   folder, and must end with that status; each further code span is one line that it writes to its standard output.
+
+What README.md and docs/*.md name in the sources must stand where they say (named.py).
 """
 import os
 import re
+import shutil
 import subprocess
 import sys
 import tempfile
 
 import cases
+import named
 import report
 
 TOP = os.path.dirname(os.path.dirname(os.path.abspath(__file__)))
 PROGRAM = os.path.join(TOP, "crates", "bohrium", "out", "bohrium")
-PAGES = ["README.md", os.path.join("docs", "LANGUAGE.md"), os.path.join("docs", "CERTIFICATES.md")]
+PAGES = ["README.md", *(os.path.join("docs", name) for name in ("LANGUAGE.md", "PLANS.md", "CERTIFICATES.md"))]
 USAGE = "usage: bohrium run [--plan|--cert] [--fuse=linear|greedy|best] [--budget=N] | bohrium check FILE | bohrium demo N\n"
 # The refusals that the grammar gives.
 OF_GRAMMAR = {"TooLong", "BadByte", "NumberTooWide", "NameTooLong", "StatementTooLong", "TooDeep", "Unexpected"}
@@ -119,6 +123,12 @@ def judge_page(page):
         script = text if kind == "bohrium" else None
 
 
+def judge_names():
+    """What the pages name stands in the files that they name."""
+    for page in named.judged_pages():
+        judge(f"{page.path}: names", "", "".join(fault + "\n" for fault in page.faults))
+
+
 def judge_examples():
     folder = os.path.join(TOP, "examples")
     for name in sorted(os.listdir(folder)):
@@ -182,6 +192,41 @@ def judge_picture():
         judge("docs/plan.svg", drawn.read(), report.picture(report.read_listing(listing.read().split("\n"))[0]) + "\n")
 
 
+# Counts the texts of the pictures of a page that stand in no block, or one upon the other, where it is opened.
+MEASURE = """<script>
+const inside = (t, b) => t.left >= b.left && t.right <= b.right && t.top >= b.top && t.bottom <= b.bottom;
+const meet = (a, b) => a.left < b.right && b.left < a.right && a.top + 2 < b.bottom && b.top + 2 < a.bottom;
+let texts = 0, outside = 0, meeting = 0;
+for (const svg of document.querySelectorAll("svg")) {
+    const boxes = [...svg.querySelectorAll(".box")].map(box => box.getBoundingClientRect());
+    const places = [...svg.querySelectorAll("text")].map(text => text.getBoundingClientRect());
+    texts += places.length;
+    outside += places.filter(text => !boxes.some(box => inside(text, box))).length;
+    meeting += places.filter((text, at) => places.some((other, beside) => at < beside && meet(text, other))).length;
+}
+document.title = `${document.querySelectorAll("svg").length} pictures, ${texts} texts, ${outside} outside, ${meeting} upon others`;
+</script>"""
+
+
+def judge_opened_page():
+    """Where there is a browser, it opens the page of tools/report.py, and all that its pictures say stands in the blocks, side by side."""
+    browser = next(filter(None, map(shutil.which, ("chromium", "chromium-browser", "google-chrome"))), None)
+    if not browser:
+        print("there is no chromium: the page of tools/report.py is not opened")
+        return
+    for name in ("rod", "fused"):
+        with open(os.path.join(TOP, "examples", f"{name}.out")) as listing, tempfile.TemporaryDirectory() as folder:
+            flushes = report.read_listing(listing.read().split("\n"))
+            page = os.path.join(folder, "page.html")
+            with open(page, "w", encoding="utf-8") as file:
+                file.write(report.page_of(flushes).replace("</body>", MEASURE + "</body>"))
+            done = subprocess.run([browser, "--headless", "--no-sandbox", "--disable-gpu", f"--user-data-dir={folder}/profile", "--dump-dom", f"file://{page}"],
+                                  capture_output=True, timeout=120)
+            texts = sum(len(flush.ops) * 2 + len(flush.blocks) * 3 for flush in flushes)
+            wanted = f"{len(flushes)} pictures, {texts} texts, 0 outside, 0 upon others"
+            judge(f"the page of examples/{name}.out", wanted, (re.findall("<title>([^<]*pictures[^<]*)</title>", done.stdout.decode()) or ["no page"])[0])
+
+
 def judge_bounds():
     """The units of a search lie between two numbers."""
     for words, script, before, behind, least, most in cases.UNITS:
@@ -223,6 +268,8 @@ def main():
     judge_examples()
     judge_cases()
     judge_picture()
+    judge_opened_page()
+    judge_names()
     for page in PAGES:
         judge_page(page)
     print(f"{passed} passed, {failed} failed")

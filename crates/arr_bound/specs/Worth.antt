@@ -1,5 +1,5 @@
 -- What the groups of a leaf are to promise.
-use Rattle.std.specs.Prelude.{◌≡◌, ◌≢◌, ℕ, ◌+◌, ◌*◌, ◌/◌, ◌<◌, ◌≤◌, Bool, true, cond, List, [], ◌∷◌, ◌++◌, IsTrue, Option, Some, None}
+use Rattle.std.specs.Prelude.{◌≡◌, ◌≢◌, ℕ, ◌+◌, ◌*◌, ◌/◌, ◌<◌, ◌≤◌, Bool, true, cond, ◌&&◌, ◌||◌, List, [], ◌∷◌, ◌++◌, IsTrue, Option, Some, None}
 use Rattle.std.specs.List.{AllByRecursion}
 use Rattle.arr_law.specs.declared.charge.Charge.{Charge}
 use Rattle.arr_law.specs.declared.fact.Fact.TheVariants.{Apart}
@@ -8,6 +8,8 @@ use Rattle.arr_law.specs.Facts.{Facts}
 use Rattle.arr_law.specs.Plans.{IsLegalAt, charged_at, cost_at}
 use Rattle.arr_law.specs.Leaves.{class_of, is_leaf, worth}
 use Rattle.arr_law.specs.Floor.{floor, floor_of_class}
+use Rattle.arr_sets.specs.Bits.{is_set}
+use Rattle.arr_bound.specs.declared.classes.Class.{Class}
 use Rattle.arr_bound.specs.Sets.{in_row}
 
 -- the rows say which operations are known to stand apart
@@ -51,6 +53,21 @@ in_rows width rows (Some f) g = in_row width rows f g
 abbrev pub Within : ℕ → ℕ → Option ℕ → Type 0
 Within width long None = Unit {0}
 Within width long (Some f) = f * width + width ≤ long
+
+-- an operation surely pays for a class: it reads a view and is apart from the operation that makes its base, or writes one and is apart from the
+-- one that ends it
+abbrev pub surely_pays : Class → ℕ → List ℕ → ℕ → Bool
+surely_pays class width rows g =
+    (is_set class.readers.items g && in_rows width rows class.creator g) || (is_set class.writers.items g && in_rows width rows class.freer g)
+
+-- the leaf of the first so many classes becomes that of one more, whatever facts the rows tell
+abbrev pub Rises : Problem → List ℕ → ℕ → ℕ → List Charge → List Charge → Type 0
+Rises problem rows at rise old new =
+    (facts : Facts) (worth : ℕ) → TellsApart problem facts rows → LeafBelow problem facts at worth old → LeafBelow problem facts (at + 1) (worth + rise) new
+
+-- a leaf under whatever facts the rows tell
+abbrev pub IsLeafBy : Problem → List ℕ → ℕ → List Charge → Type 0
+IsLeafBy problem rows value groups = (facts : Facts) → TellsApart problem facts rows → IsLargeLeaf problem facts value groups
 
 -- the group of a class joins, if it has an operation
 pub record Joined (problem : Problem) (c : ℕ) (picks : List ℕ) (old new : List Charge) : Type 0 where

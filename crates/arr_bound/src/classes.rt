@@ -3,8 +3,8 @@ ghost use Rattle.std.specs.Prelude.{◌≡◌, ◌≤◌, ◌<◌, ◌+◌, IfOk
 ghost use Rattle.std.specs.List.{list_any};
 ghost use Rattle.arr_view.specs.Views.{has, identical};
 ghost use Rattle.arr_ops.specs.Ops.{freed, inputs, makes_base, outputs, view_of};
-ghost use Rattle.arr_law.specs.ProblemOf.{first_where, op_at, views_of};
-ghost use Rattle.arr_bound.specs.Classes.{AreClasses, IsClass, IsRow};
+ghost use Rattle.arr_law.specs.ProblemOf.{first_where, views_of};
+ghost use Rattle.arr_bound.specs.Classes.{AreClasses, IsClass, IsRow, touches_at};
 
 use crate::NoMemory;
 use crate::sets::put_if;
@@ -17,15 +17,15 @@ use std::alloc::Global;
 use std::marker::Model;
 
 /// A class of identical views: one of them, what it weighs in bytes, which operations make and end its base, and as rows of words which ones
-/// read it and which ones write it.
+/// read it and which ones write it: bit f % 64 of word f / 64 stands for the operation f, counted from 1.
 #[derive(Drop)]
-pub(crate) struct Class {
-    pub(crate) view: View,
-    pub(crate) weight: u64,
-    pub(crate) creator: Option<u32>,
-    pub(crate) freer: Option<u32>,
-    pub(crate) readers: Vec<u64>,
-    pub(crate) writers: Vec<u64>,
+pub struct Class {
+    pub view: View,
+    pub weight: u64,
+    pub creator: Option<u32>,
+    pub freer: Option<u32>,
+    pub readers: Vec<u64>,
+    pub writers: Vec<u64>,
 }
 
 /// What the classes of the views of a list are to a leaf (docs/CERTIFICATES.md, "Leaves"). A contract sees the list.
@@ -36,16 +36,15 @@ pub struct Views {
 }
 
 impl Model for Views {
-    ghost use Rattle.std.specs.Prelude.{◌≡◌, ◌≤◌, List, length};
+    ghost use Rattle.std.specs.Prelude.{List};
     ghost use Rattle.arr_ops.specs.declared.op.Op.{Op};
-    ghost use Rattle.arr_law.specs.ProblemOf.{views_of};
-    ghost use Rattle.arr_bound.specs.Classes.{AreClasses};
+    ghost use Rattle.arr_bound.specs.Classes.{AreAllClasses};
 
     ghost Value = { List Op };
 
     ghost view = { λ v. v.ops.items };
 
-    ghost invariant = { λ v. (length v.ops.items ≤ 256) × (length (views_of v.ops.items) ≤ 768) × AreClasses v.ops.items (length (views_of v.ops.items)) v.classes.items };
+    ghost invariant = { λ v. AreAllClasses v.ops.items v.classes.items };
 }
 
 fn copied(alloc: Global, ops: &[Op]) -> Result<Vec<Op>, NoMemory>
@@ -141,7 +140,7 @@ fn touches(op: &Op, view: &View, written: bool) -> bool
 /// The operations that write a view identical to this one, or read one.
 fn row_of(alloc: Global, ops: &[Op], view: &View, written: bool) -> Result<Vec<u64>, NoMemory>
     requires { length ops.now ≤ MOST }
-    ensures { IfOk result (λ row. IsRow ops.now (λ g. cond written (list_any (identical view.now) (outputs (op_at ops.now g))) (list_any (identical view.now) (inputs (op_at ops.now g)))) row.items) }
+    ensures { IfOk result (λ row. IsRow ops.now (touches_at ops.now view.now written) row.items) }
 {
     let mut row = vec![in alloc; 0; ops.len() / 64 + 1]?;
     for place in 0..ops.len() {
@@ -195,5 +194,12 @@ impl Views {
             ops: copied(alloc, ops)?,
             classes: all_classes(alloc, ops)?,
         })
+    }
+
+    /// The classes of the views of the list, in the order of first sight (docs/CERTIFICATES.md, "Leaves"). It takes no memory.
+    pub fn classes(&self) -> &[Class]
+        ensures { AreClasses self.now (length (views_of self.now)) result.now }
+    {
+        self.classes.as_slice()
     }
 }

@@ -13,7 +13,7 @@ ghost use Rattle.arr_state.specs.States.{known};
 ghost use Rattle.arr_law.specs.ProblemOf.{numbered_view, op_at, problem_of, view_at};
 ghost use Rattle.arr_bound.specs.Classes.{IsClass};
 ghost use Rattle.arr_bound.specs.Sets.{in_row, IsTable};
-ghost use Rattle.arr_bound.specs.Worth.{in_rows, IsLargeLeaf, Joined, LeafBelow, TellsApart, Within};
+ghost use Rattle.arr_bound.specs.Worth.{in_rows, IsLargeLeaf, IsLeafBy, Joined, Rises, surely_pays, Within};
 
 use crate::NoMemory;
 use crate::classes::{Class, Views, is_operand, writes};
@@ -47,7 +47,7 @@ fn payers(alloc: Global, class: &Class, apart: &[u64], width: usize) -> Result<V
     requires creator { Within width (length apart.now) class.now.creator }
     requires freer { Within width (length apart.now) class.now.freer }
     ensures long { IfOk result (λ set. length set.items ≡ width) }
-    ensures members { IfOk result (λ set. (g : ℕ) → is_set set.items g ≡ ((is_set class.now.readers.items g && in_rows width apart.now class.now.creator g) || (is_set class.now.writers.items g && in_rows width apart.now class.now.freer g))) }
+    ensures members { IfOk result (λ set. (g : ℕ) → is_set set.items g ≡ surely_pays class.now width apart.now g) }
 {
     let mut set = Vec::new(alloc);
     for index in 0..width {
@@ -111,7 +111,7 @@ fn join_class(
     requires class { IsClass ops.now at class.now }
     requires table { IsTable (length ops.now) apart.now }
     ensures small { IfOk result (λ rise. rise ≤ 2684354560) }
-    ensures below { IfOk result (λ rise. (facts : Facts) (worth : ℕ) → TellsApart (problem_of ops.now) facts apart.now → LeafBelow (problem_of ops.now) facts at worth groups.old → LeafBelow (problem_of ops.now) facts (at + 1) (worth + rise) groups.new) }
+    ensures below { IfOk result (λ rise. Rises (problem_of ops.now) apart.now at rise groups.old groups.new) }
 {
     let mut set = payers(alloc, class, apart, ops.len() / 64 + 1)?;
     let picks = picks_of(alloc, &mut set, apart, ops.len() as u32)?;
@@ -124,7 +124,7 @@ fn join_class(
 /// apart.
 fn leaf_by(alloc: Global, views: &Views, apart: &[u64]) -> Result<(u64, Charges), NoMemory>
     requires { IsTable (length views.now) apart.now }
-    ensures { IfOk result (λ (worth, groups). (facts : Facts) → TellsApart (problem_of views.now) facts apart.now → IsLargeLeaf (problem_of views.now) facts worth groups) }
+    ensures { IfOk result (λ (worth, groups). IsLeafBy (problem_of views.now) apart.now worth groups) }
 {
     let mut groups = Charges::new(alloc);
     let mut worth = 0;

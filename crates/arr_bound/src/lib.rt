@@ -16,7 +16,7 @@ mod leaf;
 mod picks;
 mod sets;
 
-pub use classes::Views;
+pub use classes::{Class, Views};
 pub use leaf::charges;
 
 /// Want of memory.

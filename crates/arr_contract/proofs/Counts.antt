@@ -76,7 +76,7 @@ few_of (x ∷ xs) block =
     let r : length (ops_of xs block) ≤ length xs = few_of xs block in
     elim (has block x.0) as (λ b. length (cond b (x.1 ∷ ops_of xs block) (ops_of xs block)) ≤ suc (length xs)) [ true ↦ omega arith | false ↦ omega arith ]
 
-long_numbered : (k : ℕ) (list : List Op) → length (enumerate_from k list) ≡ length list
+pub long_numbered : (k : ℕ) (list : List Op) → length (enumerate_from k list) ≡ length list
 long_numbered k [] = refl
 long_numbered k (op ∷ list) = ap suc (long_numbered (k + 1) list)
 

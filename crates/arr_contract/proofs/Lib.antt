@@ -2,6 +2,7 @@ pub mod Shared
 pub mod Counts
 pub mod Weighing
 pub mod Storage
+pub mod Lengths
 pub mod Makings
 pub mod Walked
 pub mod Tasking

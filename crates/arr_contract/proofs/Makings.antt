@@ -17,12 +17,11 @@ use Rattle.arr_ops.specs.declared.op.Op.{Op}
 use Rattle.arr_ops.specs.declared.op.Operand.{Operand}
 use Rattle.arr_ops.specs.declared.op.Operand.TheVariants.{Array, Number}
 use Rattle.arr_ops.specs.Costs.{elem_of}
-use Rattle.arr_ops.specs.Formed.{elementwise, is_array, numbers_kept, numbers_of, operands_kept, well_formed}
+use Rattle.arr_ops.specs.Formed.{elementwise, is_array, kind_kept, numbers_kept, numbers_of, operands_kept, types_kept, well_formed}
 use Rattle.arr_ops.proofs.Lengths.{positions_at}
 use Rattle.arr_ops.proofs.Spots.{operands_of}
 use Rattle.arr_view.proofs.Counting.{some_position}
 use Rattle.arr_ops.proofs.Tests.{both_left, both_right}
-use Rattle.arr_perform.proofs.Operands.{numbers_of_op}
 use Rattle.arr_strips.specs.Blocks.{first_shape}
 use Rattle.arr_ops.specs.Memory.{Cell}
 use Rattle.arr_store.specs.Buffers.{cell_of}
@@ -156,6 +155,13 @@ number_most (w ∷ vs) v =
 
 -- ---- constants of operations
 
+pub numbers_of_op : (op : Op) → well_formed op ≡ true → numbers_kept op.code op ≡ true
+numbers_of_op op h = both_right (types_kept op.code op) _ (both_right (operands_kept (kind op.code) op) _ (both_left (kind_kept op) _ h))
+
+pub first_kept : (code : Code) (op : Op) → numbers_kept code op ≡ true → list_all (in_type op.from) (numbers_of op.first) ≡ true
+first_kept Power op h = both_left (list_all (in_type op.from) (numbers_of op.first)) _ h
+first_kept _ op h = both_left (list_all (in_type op.from) (numbers_of op.first)) _ h
+
 pub second_kept : (code : Code) (op : Op) → (code ≡ Power → ⊥) → numbers_kept code op ≡ true → list_all (in_type op.from) (numbers_of op.second) ≡ true
 second_kept Power op n h = absurd (n refl)
 second_kept _ op n h = both_right (list_all (in_type op.from) (numbers_of op.first)) _ h
@@ -233,24 +239,3 @@ each_more P xs ys i y long h here k x z l e f =
           let ne : k ≡ i → ⊥ = eqb-false k i d in
           h k x z (omega arith) e (f ∙ front_get ys (y ∷ []) z k (omega arith))
     ] refl
-
--- ---- lengths before an axis
-
-pub all_front : (ns : List ℕ) (k : ℕ) → list_all (nat_le 1) ns ≡ true → list_all (nat_le 1) (take k ns) ≡ true
-all_front ns zero h = refl
-all_front [] (suc k) h = refl
-all_front (n ∷ ns) (suc k) h = both_true (nat_le 1 n) (list_all (nat_le 1) (take k ns)) (both_left (nat_le 1 n) _ h) (all_front ns k (both_right (nat_le 1 n) _ h))
-  where
-    both_true : (a b : Bool) → a ≡ true → b ≡ true → (a && b) ≡ true
-    both_true true b x y = y
-    both_true false b x y = absurd (false≢true x)
-
-front_most : (a b n : ℕ) → 1 ≤ n → n ≡ a * b → a ≤ n
-front_most a zero n l e = absurd (let z : a * 0 ≡ 0 = omega arith in omega arith)
-front_most a (suc b) n l e = let z : a * suc b ≡ a * b + a = omega arith in omega arith
-
-pub few_front : (ns : List ℕ) (k : ℕ) → list_all (nat_le 1) ns ≡ true → positions ns ≤ 1048576 → k < length ns → positions (take k ns) ≤ 1048576
-few_front ns k each few below =
-    let some : 1 ≤ positions ns = some_position ns each in
-    let most : positions (take k ns) ≤ positions ns = front_most (positions (take k ns)) _ (positions ns) some (positions_at ns k below) in
-    omega arith

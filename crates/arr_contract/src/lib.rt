@@ -10,7 +10,8 @@
 //! block reads and writes weighs, by the types of its own operations, what it weighs in its list.
 //!
 //! The definitions: `specs/Prepared.antt` has what a contract sees of a `Prepared` (`PreparedBlock`), which blocks are meant
-//! (`IsBlockOf`), and what holds of the operations of each (`may_share_block`); `specs/Laws.antt` has the law as a statement.
+//! (`IsBlockOf`), what holds of the operations of each (`may_share_block`), and how many positions its strips have (`strip`);
+//! `specs/Laws.antt` has the law as a statement.
 #![tactic(auto)]
 
 mod contracted;

@@ -1,7 +1,8 @@
 //! All that a block takes to walk its positions in strips.
-ghost use Rattle.std.specs.Prelude.{◌≡◌, ◌≤◌, IfOk, false, length, map, true};
+ghost use Rattle.std.specs.Prelude.{◌≡◌, ◌≤◌, ◌/◌, IfOk, false, length, map, max, min, true};
 ghost use Rattle.std.specs.List.{AllByRecursion, list_all};
 ghost use Rattle.std.specs.Option.{option_to_list};
+ghost use Rattle.arr_num.specs.Numbers.{width};
 ghost use Rattle.arr_view.specs.Views.{positions};
 ghost use Rattle.arr_ops.specs.Formed.{each_typed, well_formed};
 ghost use Rattle.arr_ops.specs.Ops.{walked};
@@ -10,6 +11,7 @@ ghost use Rattle.arr_strips.specs.Registers.{register_views};
 ghost use Rattle.arr_machine.specs.Machines.{IsMachineOf};
 ghost use Rattle.arr_machine.specs.Ports.{ArePorts};
 ghost use Rattle.arr_contract.specs.Making.{IsWalked};
+ghost use Rattle.arr_contract.specs.Prepared.{strip, widest};
 
 use crate::NoMemory;
 use crate::lanes::lanes_of;
@@ -56,8 +58,8 @@ fn positions_of(ops: &[Op]) -> u32
 
 /// How many bytes a number of the widest type in a block takes.
 fn widest(ops: &[Op]) -> usize
+    ensures exact { result ≡ widest ops.now }
     ensures some { 1 ≤ result }
-    ensures most { result ≤ 8 }
 {
     let mut widest = 1;
     for op in ops {
@@ -68,8 +70,7 @@ fn widest(ops: &[Op]) -> usize
 
 /// How many bytes a number of a type takes.
 fn width(ty: Elem) -> usize
-    ensures some { 1 ≤ result }
-    ensures most { result ≤ 8 }
+    ensures { result ≡ width ty }
 {
     match ty {
         Elem::U8 => 1,
@@ -80,6 +81,7 @@ fn width(ty: Elem) -> usize
 
 /// How many positions a strip of a block has at most: its lanes hold few bytes, and no more numbers than it has positions.
 fn room_of(ops: &[Op], positions: u32) -> usize
+    ensures exact { result ≡ max (min (2048 / widest ops.now) positions) 1 }
     ensures some { 1 ≤ result }
     ensures most { result ≤ 2048 }
 {
@@ -115,7 +117,8 @@ pub(crate) fn machine_of(alloc: Global, ops: &[Op], views: &[View]) -> Result<Ma
     requires types { each_typed ops.now ≡ true }
     requires few { length ops.now ≤ 256 }
     requires views { views.now ≡ register_views ops.now }
-    ensures { IfOk result (λ machine. IsMachineOf ops.now machine) }
+    ensures machine { IfOk result (λ machine. IsMachineOf ops.now machine) }
+    ensures strip { IfOk result (λ machine. machine.room ≡ strip ops.now) }
 {
     let positions = positions_of(ops);
     let room = room_of(ops, positions);
@@ -145,7 +148,8 @@ pub(crate) fn machine_for(
     requires types { each_typed ops.now ≡ true }
     requires few { length ops.now ≤ 256 }
     requires views { views.now ≡ register_views ops.now }
-    ensures { IfOk result (λ machine. is_serial ≡ false → IsMachineOf ops.now machine) }
+    ensures machine { IfOk result (λ machine. is_serial ≡ false → IsMachineOf ops.now machine) }
+    ensures strip { IfOk result (λ machine. is_serial ≡ false → machine.room ≡ strip ops.now) }
 {
     if is_serial {
         return idle_machine(alloc);

@@ -19,7 +19,7 @@ ghost use Rattle.arr_ops.specs.Formed.{is_formed};
 ghost use Rattle.arr_ops.specs.Ops.{serial};
 ghost use Rattle.arr_ops.specs.Plans.{numbered, ops_of};
 ghost use Rattle.arr_ops.specs.Traffic.{contracted, scratch};
-ghost use Rattle.arr_contract.specs.Prepared.{IsBlockOf, may_share_block};
+ghost use Rattle.arr_contract.specs.Prepared.{IsBlockOf, may_share_block, strip};
 
 use crate::NoMemory;
 use crate::contracted::contracted;
@@ -35,7 +35,8 @@ use std::alloc::Global;
 use std::marker::Model;
 
 /// A block of a legal plan, with all that running it takes (docs/PLANS.md, "Running a block"). A contract sees the block's operations in
-/// list order and the numbers that it keeps as scratch.
+/// list order and the numbers that it keeps as scratch. Beside these numbers a block without a serial operation has its lanes: one for each
+/// distinct view, one for each constant and one spare a type, each with room for as many numbers as a strip has positions (`strip`).
 #[derive(Drop)]
 pub struct Prepared {
     ops: Vec<Op>,
@@ -54,13 +55,13 @@ impl Model for Prepared {
     ghost use Rattle.arr_ops.specs.Ops.{serial};
     ghost use Rattle.arr_ops.specs.Traffic.{contracted, scratch};
     ghost use Rattle.arr_machine.specs.Machines.{IsMachineOf};
-    ghost use Rattle.arr_contract.specs.Prepared.{PreparedBlock, may_share_block};
+    ghost use Rattle.arr_contract.specs.Prepared.{PreparedBlock, may_share_block, strip};
 
     ghost Value = { PreparedBlock };
 
     ghost view = { λ p. record { ops = p.ops.items; numbers = p.numbers.items } };
 
-    ghost invariant = { λ p. (IsTrue (may_share_block p.ops.items)) × (length p.ops.items ≤ 256) × (p.read_views.items ≡ reads p.ops.items) × (p.written_views.items ≡ writes p.ops.items) × (p.contracted_bases.items ≡ contracted p.ops.items) × (p.is_serial ≡ list_any serial p.ops.items) × (length p.numbers.items ≡ scratch p.ops.items) × (p.is_serial ≡ false → IsMachineOf p.ops.items p.machine) };
+    ghost invariant = { λ p. (IsTrue (may_share_block p.ops.items)) × (length p.ops.items ≤ 256) × (p.read_views.items ≡ reads p.ops.items) × (p.written_views.items ≡ writes p.ops.items) × (p.contracted_bases.items ≡ contracted p.ops.items) × (p.is_serial ≡ list_any serial p.ops.items) × (length p.numbers.items ≡ scratch p.ops.items) × (p.is_serial ≡ false → IsMachineOf p.ops.items p.machine) × (p.is_serial ≡ false → p.machine.room ≡ strip p.ops.items) };
 }
 
 impl Prepared {
@@ -139,6 +140,15 @@ impl Prepared {
         ensures numbers { result ≡ length self.now.numbers }
     {
         self.numbers.len() as u64
+    }
+
+    /// How many positions a strip of the block has at most, and so for how many numbers each of its lanes has room; the block has no serial
+    /// operation (docs/PLANS.md, "Running a block"). It takes no memory.
+    pub fn strip(&self) -> u64
+        requires { list_any serial self.now.ops ≡ false }
+        ensures { result ≡ strip self.now.ops }
+    {
+        self.machine.room as u64
     }
 
     /// The number kept at a place, counted from 0 (docs/PLANS.md, "Running a block"). It takes no memory.

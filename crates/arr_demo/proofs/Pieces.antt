@@ -196,10 +196,6 @@ lone_cuts slash rest = by_sign sign.Slash _ (alone 47 rest refl refl)
 lone_cuts percent rest = by_sign sign.Percent _ (alone 37 rest refl refl)
 lone_cuts both rest = by_sign sign.And _ (alone 38 rest refl refl)
 
--- which of the five tests holds first
-abbrev fifth : {A : Type 0} → Bool → Bool → Bool → Bool → Bool → A → A → A → A → A → A → A
-fifth t u v w x a b c d e f = cond t a (cond u b (cond v c (cond w d (cond x e f))))
-
 word_cuts : (w rest : List ℕ) → is_word w ≡ true → Stops is_word_byte rest → Cuts (word w) rest
 word_cuts [] rest e s = cc
 word_cuts (b ∷ bs) rest e s =

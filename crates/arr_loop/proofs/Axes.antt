@@ -23,12 +23,10 @@ use Rattle.arr_ops.specs.Ops.{array_of, inputs, view_of}
 use Rattle.arr_ops.specs.Traffic.{axis_length}
 use Rattle.arr_ops.proofs.Lengths.{positions_at}
 use Rattle.arr_ops.proofs.Parts.{length-elements}
-use Rattle.arr_perform.proofs.Moving.{few_positions}
+use Rattle.arr_machine.proofs.Few.{few_positions}
+use Rattle.arr_loop.proofs.Needs.{input_inside, input_need, input_typed, inputs_met}
 use Rattle.arr_ops.proofs.Spots.{Plain, all_left, operands_of}
 use Rattle.arr_ops.proofs.Typed.{Computes, computed_in, get_in}
-use Rattle.arr_perform.specs.Performed.{lie_inside}
-use Rattle.arr_perform.proofs.Operands.{input_need, inputs_met}
-use Rattle.arr_perform.proofs.Results.{input_inside, input_typed}
 use Rattle.arr_store.specs.Cells.{width_at}
 use Rattle.arr_store.proofs.Pages.{passes}
 use Rattle.arr_strips.specs.Columns.{Columns, column_of, count, fold_upto, look, results_at, scan_at, taken}
@@ -38,7 +36,7 @@ use Rattle.arr_strips.proofs.Sorts.{Filling, Reducing, sorts}
 use Rattle.arr_strips.proofs.Values.{Columnar, Folding, HeldAll, get_or-read, length-read}
 use Rattle.arr_machine.specs.Kept.{inner_of}
 use Rattle.arr_machine.proofs.Axes.{axis_inside_it, axis_kept, input_view, second_kept, some_at}
-use Rattle.arr_loop.specs.Numbers.{loads_each, row_at}
+use Rattle.arr_loop.specs.Numbers.{loads_each, row_at, lie_inside}
 use Rattle.arr_loop.proofs.Elements.{width_met}
 
 fold_computes : (k : Kind) → (folds k || scans k) ≡ true → Computes k

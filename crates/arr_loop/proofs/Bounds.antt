@@ -17,8 +17,7 @@ use Rattle.arr_ops.specs.Plans.{is_legal, numbered, ops_of}
 use Rattle.arr_ops.specs.Traffic.{buffers, created, read_bytes, write_bytes}
 use Rattle.arr_ops.proofs.Pairs.{All_weaker}
 use Rattle.arr_ops.proofs.Spots.{all_left, all_right, formed_of, views_of}
-use Rattle.arr_perform.proofs.Blocks.{all_ops, ops_in}
-use Rattle.arr_perform.proofs.Picked.{all_block}
+use Rattle.arr_loop.proofs.Blocks.{all_block, all_ops, ops_in}
 use Rattle.arr_loop.specs.Opened.{buffers_for, made_by}
 use Rattle.arr_loop.proofs.Made.{buffers_made}
 

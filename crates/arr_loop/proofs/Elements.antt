@@ -24,9 +24,8 @@ use Rattle.arr_ops.proofs.Pairs.{All_weaker}
 use Rattle.arr_ops.proofs.Spots.{Plain, all_left, all_right, none_from, operands_of, plain_at, same_elem_is}
 use Rattle.arr_ops.proofs.Tests.{both_left, both_right, test_all}
 use Rattle.std.proofs.lemmas.List.FromFn.{get_or-map-range_with_len}
-use Rattle.arr_perform.proofs.Operands.{elementwise_of, input_need, inputs_met, length-first}
-use Rattle.arr_perform.proofs.Moving.{small_width}
-use Rattle.arr_perform.proofs.Results.{left_taken, right_taken}
+use Rattle.arr_loop.proofs.Needs.{elementwise_of, input_need, inputs_met, left_taken, length-first, right_taken}
+use Rattle.arr_loop.proofs.Moves.{small_width}
 use Rattle.arr_store.specs.Cells.{number_at, width_at}
 use Rattle.arr_store.proofs.Pages.{passes}
 use Rattle.arr_strips.specs.Columns.{Columns, Row, first_taken, look, taken}

@@ -1,6 +1,9 @@
 pub mod Shares
 pub mod Buffers
 pub mod Lone
+pub mod Needs
+pub mod Slots
+pub mod Blocks
 pub mod Made
 pub mod Moves
 pub mod Elements

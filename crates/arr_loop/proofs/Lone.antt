@@ -17,11 +17,10 @@ use Rattle.arr_ops.specs.declared.op.Operand.{Operand}
 use Rattle.arr_ops.specs.declared.op.Operand.TheVariants.{Array, Number}
 use Rattle.arr_ops.specs.Ops.{creates, freed, freed_by, fusible, inputs, is_free, makes_base, named, outputs, serial, some_pair, view_of}
 use Rattle.arr_ops.specs.Formed.{all_pairs, is_whole, kind_kept, makes_whole, may_precede, well_formed, writes_once}
-use Rattle.arr_ops.specs.Memory.{Becomes, Cell, Drops, Keeps, Memory, Writes, change, changed, computed, eager, first_numbers, lengths_of, operand, or_zero, out_lengths, output_change, read, results, step}
+use Rattle.arr_ops.specs.Memory.{Becomes, Cell, Drops, Keeps, Memory, Writes, change, changed, computed, eager, first_numbers, lengths_of, operand, or_zero, out_lengths, output_change, read, results, step, slot_after}
 use Rattle.arr_ops.proofs.Pairs.{All_weaker, Pairs}
 use Rattle.arr_ops.proofs.Spots.{all_left, all_right, pairs_before}
 use Rattle.arr_ops.proofs.Tests.{all_of, both_left, both_right, or_cases, pairs_of}
-use Rattle.arr_perform.proofs.Performing.{slots_kept}
 use Rattle.arr_strips.proofs.Sames.{any_all, none_if}
 use Rattle.arr_strips.proofs.Sorts.{Freeing, sorts}
 use Rattle.arr_strips.proofs.Stages.{names_views, unfreed}
@@ -200,7 +199,7 @@ eager_free (f ∷ fs) r m b =
     join true false c = refl
     join false y c = refl
 
-eager_append : (xs ys : List Op) (m : Memory) → eager m (xs ++ ys) ≡ eager (eager m xs) ys
+pub eager_append : (xs ys : List Op) (m : Memory) → eager m (xs ++ ys) ≡ eager (eager m xs) ys
 eager_append [] ys m = refl
 eager_append (x ∷ xs) ys m = eager_append xs ys (step m x)
 
@@ -279,6 +278,9 @@ module _ (ops : List Op) (op : Op) (l : Lone ops op) (order : all_pairs may_prec
       frees =
           ap (λ xs. freed_by xs b) l.is ∙ list_any-append (λ f. has (freed f) b) l.front (op ∷ l.back)
           ∙ ap (λ (x : Option ℕ). freed_by l.front b || (has (option_to_list x) b || freed_by l.back b)) (busy op l.well l.serial_is)
+
+slots_kept : (m : Memory) (op : Op) → op.slot ≡ None → m.slots ≡ (step m op).slots
+slots_kept m op e = sym (ap (λ x. λ s. slot_after x (record { elem = op.from; lengths = lengths_of op.first; numbers = computed m op }) s (m.slots s)) e)
 
 -- its operations show nothing
 quiet_all : (fs : List Op) → AllByRecursion (λ (f : Op). f.slot ≡ None) fs → (m : Memory) → m.slots ≡ (eager m fs).slots

@@ -1,9 +1,12 @@
 -- Finding the operation that writes, writing results at the elements of a view, and dropping bases.
 use Rattle.std.proofs.Common.{◌≡◌, ℕ, zero, suc, ◌+◌, ◌<◌, ◌≤◌, ℤ, pos, List, [], ◌∷◌, ◌++◌, Bool, true, false, cond, ◌||◌, Option, Some, None, length, take, drop, get_or, set, map, refl, ap, ap₂, sym, ◌∙◌, arith}
-use Rattle.std.specs.Prelude.{nat_eq, nat_lt}
+use Rattle.arr_num.specs.Numbers.{width}
+use Rattle.arr_num.specs.declared.elem.Elem.{Elem}
+use Rattle.arr_num.specs.declared.elem.Elem.TheVariants.{U8, I32, I64, U64}
+use Rattle.std.specs.Prelude.{nat_eq, nat_lt, ◌==◌}
 use Rattle.std.specs.List.{find}
 use Rattle.std.specs.Option.{option_to_list}
-use Rattle.std.proofs.lemmas.Bool.{eq-eqb, ltb-true}
+use Rattle.std.proofs.lemmas.Bool.{eq-eqb, ltb-true, eqb-true}
 use Rattle.std.proofs.lemmas.List.{take_more}
 use Rattle.std.proofs.lemmas.List.Folds.{list_any-append}
 use Rattle.arr_view.specs.Strided.{Strided}
@@ -11,14 +14,13 @@ use Rattle.arr_view.specs.Views.{elements, has, is_view, positions}
 use Rattle.arr_ops.specs.declared.op.Op.{Op}
 use Rattle.arr_ops.specs.Ops.{freed, freed_by, named, views}
 use Rattle.arr_ops.specs.Formed.{all_pairs, may_precede}
-use Rattle.arr_ops.specs.Memory.{Cell, Writes, changed, write}
+use Rattle.arr_ops.specs.Memory.{Cell, Writes, changed, write, Becomes, Change, Drops, Keeps, Slot, change, output_change, put}
 use Rattle.arr_ops.proofs.Pairs.{All_weaker, Pairs}
 use Rattle.arr_ops.proofs.Parts.{length-elements}
 use Rattle.arr_ops.proofs.Spots.{pairs_before}
 use Rattle.arr_ops.proofs.Tests.{pairs_of}
 use Rattle.arr_store.specs.Cells.{assigned, size_at, takes, width_at, with_number}
-use Rattle.arr_perform.specs.Performed.{lie_inside, written}
-use Rattle.arr_perform.proofs.Moving.{at_same, twice}
+use Rattle.arr_loop.specs.Numbers.{lie_inside, written}
 use Rattle.arr_strips.specs.Columns.{place_at}
 use Rattle.arr_strips.proofs.Cells.{length-write}
 use Rattle.arr_strips.proofs.Sames.{none_if}
@@ -50,6 +52,16 @@ pub find_more : {X : Type 0} (p : X → Bool) (xs : List X) (i : ℕ) (x : X) �
 find_more p xs i x l e n f = ap (find p) (take_more xs i x l ∙ ap (λ y. take i xs ++ y ∷ []) (sym e)) ∙ find_end p (take i xs) x n f
 
 -- ---- writing
+
+at_same : {X : Type 0} (f : ℕ → Option X) (b : ℕ) (c : Option X) → assigned f b c b ≡ c
+at_same f b c = ap (λ t. cond t c (f b)) (eq-eqb b b refl)
+
+twice : {X : Type 0} (f : ℕ → Option X) (b : ℕ) (c d : Option X) → assigned (assigned f b c) b d ≡ assigned f b d
+twice {X = X} f b c d = λ i a. one (b == a) (f a) i
+  where
+    one : (t : Bool) (x : Option X) → cond t d (cond t c x) ≡ cond t d x
+    one true x = refl
+    one false x = refl
 
 write_end : (es : List ℕ) (xs ns : List ℤ) (e : ℕ) (x : ℤ) → length es ≡ length xs → set (write es xs ns) e x ≡ write (es ++ e ∷ []) (xs ++ x ∷ []) ns
 write_end [] [] ns e x l = refl
@@ -105,6 +117,35 @@ width_written f now b es xs is = ap (λ (g : ℕ → Option Cell). width_at (g b
 pub place_inside : (v : Strided) (p : ℕ) (c : Option Cell) → is_view v ≡ true → lie_inside (elements v) c ≡ true → p < positions v.lengths → place_at v p < size_at c
 place_inside v p c h inside l =
     ltb-true (place_at v p) (size_at c) (all_at (λ e. nat_lt e (size_at c)) (elements v) p inside (let long : length (elements v) ≡ positions v.lengths = length-elements v h in omega arith))
+
+pub small_width : (c : Option Cell) → width_at c ≤ 8
+small_width None = omega arith
+small_width (Some c) = at_most c.elem
+  where
+    at_most : (t : Elem) → width t ≤ 8
+    at_most U8 = omega arith
+    at_most I32 = omega arith
+    at_most I64 = omega arith
+    at_most U64 = omega arith
+
+-- the bases after an operation that writes
+pub put_some : (f : ℕ → Option Cell) (s : ℕ → Option Slot) (op : Op) (o : Strided) (xs : List ℤ) → op.out ≡ Some o → op.frees ≡ None
+    → (put (record { bases = f; slots = s }) op xs).bases ≡ assigned f o.base (changed (cond op.makes (Becomes (record { elem = op.to; numbers = xs })) (Writes (elements o) xs)) (f o.base))
+put_some f s op o xs out frees = λ i b. at b i
+  where
+    new : Change
+    new = cond op.makes (Becomes (record { elem = op.to; numbers = xs })) (Writes (elements o) xs)
+
+    at : (b : ℕ) → changed (change op xs b) (f b) ≡ assigned f o.base (changed (cond op.makes (Becomes (record { elem = op.to; numbers = xs })) (Writes (elements o) xs)) (f o.base)) b
+    at b =
+        ap (λ x. changed (cond (has (option_to_list x) b) Drops (output_change op.out op.makes op.to xs b)) (f b)) frees
+        ∙ ap (λ x. changed (output_change x op.makes op.to xs b) (f b)) out
+        ∙ elim (o.base == b) as (λ p. (o.base == b) ≡ p
+        → changed (cond p (cond op.makes (Becomes (record { elem = op.to; numbers = xs })) (Writes (elements o) xs)) Keeps) (f b)
+        ≡ cond p (changed (cond op.makes (Becomes (record { elem = op.to; numbers = xs })) (Writes (elements o) xs)) (f o.base)) (f b)) [
+          | true ↦ λ e. ap (λ k. changed (cond op.makes (Becomes (record { elem = op.to; numbers = xs })) (Writes (elements o) xs)) (f k)) (sym (eqb-true o.base b e))
+          | false ↦ λ e. refl
+        ] refl
 
 -- ---- dropping
 

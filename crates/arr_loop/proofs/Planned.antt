@@ -18,14 +18,12 @@ use Rattle.arr_ops.proofs.Serving.{blocks_fit_formed}
 use Rattle.arr_ops.proofs.Tests.{both_left, both_right}
 use Rattle.arr_contract.specs.Prepared.{IsBlockOf}
 use Rattle.arr_contract.proofs.Weighing.{blocks_weigh}
-use Rattle.arr_perform.specs.Performed.{memory}
-use Rattle.arr_perform.proofs.Blocks.{Alike, Leaves, Own, alike_after, leaves_list, own_all, slot_there}
-use Rattle.arr_perform.proofs.Picked.{all_block, formed_block}
-use Rattle.arr_perform.proofs.Ready.{same_bases}
+use Rattle.arr_loop.proofs.Slots.{Alike, alike_after, Own, own_all, same_bases, slot_there}
+use Rattle.arr_loop.proofs.Blocks.{all_block, formed_block, Leaves, leaves_list}
 use Rattle.arr_store.specs.Slots.{blank_slots, slots_of}
 use Rattle.arr_store.specs.Stored.{Stored, cells, memory_of}
 use Rattle.arr_loop.specs.Opened.{buffers_for, unopened}
-use Rattle.arr_loop.specs.Ready.{AreShown, before_open}
+use Rattle.arr_loop.specs.Ready.{AreShown, before_open, memory}
 use Rattle.arr_loop.proofs.Bounds.{Small, plan_small}
 use Rattle.arr_loop.proofs.Made.{buffers_made}
 

@@ -17,8 +17,8 @@ use Rattle.arr_ops.specs.Ops.{creates, outputs}
 use Rattle.arr_ops.proofs.Spots.{all_two, same_elem_is}
 use Rattle.arr_ops.proofs.Tests.{all_of, both_left, both_right, same_from_test}
 use Rattle.arr_view.specs.Strided.{Strided}
-use Rattle.arr_perform.specs.Performed.{shows}
-use Rattle.arr_perform.proofs.Ready.{slots_alike}
+use Rattle.arr_loop.specs.Ready.{shows}
+use Rattle.arr_loop.proofs.Slots.{slots_alike}
 use Rattle.arr_store.specs.Slots.{slot_number}
 use Rattle.arr_strips.specs.Blocks.{block_positions, block_shape, is_block}
 use Rattle.arr_strips.specs.Columns.{Columns, next, slots_end, taken}

@@ -10,7 +10,7 @@ use Rattle.arr_ops.specs.Ops.{creates, freed_by, serial}
 use Rattle.arr_ops.proofs.Pairs.{All_weaker}
 use Rattle.arr_ops.proofs.Spots.{created_absent}
 use Rattle.arr_ops.proofs.Tests.{all_of}
-use Rattle.arr_perform.proofs.Ready.{same_bases}
+use Rattle.arr_loop.proofs.Slots.{same_bases}
 use Rattle.arr_store.specs.Cells.{width_at}
 use Rattle.arr_store.specs.Slots.{slots_of}
 use Rattle.arr_store.specs.Stored.{Stored, cells}

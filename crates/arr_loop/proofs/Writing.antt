@@ -21,15 +21,14 @@ use Rattle.arr_ops.proofs.Spots.{all_left, all_mapped, all_right, computes_of, o
 use Rattle.arr_ops.proofs.Tests.{all_of, both_left, test_all}
 use Rattle.arr_ops.proofs.Typed.{computed_in}
 use Rattle.arr_store.specs.Cells.{assigned, width_at}
-use Rattle.arr_perform.specs.Performed.{written}
-use Rattle.arr_perform.proofs.Operands.{output_need, outputs_met}
-use Rattle.arr_perform.proofs.Outputs.{put_some}
-use Rattle.arr_perform.proofs.Performing.{computed_alike}
+use Rattle.arr_loop.proofs.Needs.{output_need, outputs_met}
+use Rattle.arr_loop.proofs.Moves.{put_some}
+use Rattle.arr_loop.proofs.Slots.{computed_alike}
 use Rattle.arr_strips.proofs.Sames.{all_distinct, any_all, or_true}
 use Rattle.arr_strips.proofs.Sorts.{Reducing, sorts}
 use Rattle.arr_contract.specs.Prepared.{may_share_block}
 use Rattle.arr_machine.proofs.Types.{types_there}
-use Rattle.arr_loop.specs.Numbers.{loads_each}
+use Rattle.arr_loop.specs.Numbers.{loads_each, written}
 use Rattle.arr_machine.specs.Kept.{inner_of}
 use Rattle.arr_loop.specs.Opened.{unopened}
 use Rattle.arr_loop.proofs.Elements.{width_met}
@@ -181,7 +180,7 @@ module _ (ops : List Op) (op : Op) (l : Lone ops op) (share : may_share_block op
   serial_leaves m f g o same out is b =
       ap (λ (k : ℕ → Option Cell). cond (freed_by ops b) None (k b))
       (is
-      ∙ ap (λ xs. written f o.base (elements o) xs) (computed_alike f (λ s. None) m.slots op)
+      ∙ ap (λ xs. written f o.base (elements o) xs) (computed_alike (record { bases = f; slots = λ s. None }) (record { bases = f; slots = m.slots }) op refl)
       ∙ ap (λ k. written k o.base (elements o) (computed (record { bases = k; slots = m.slots }) op)) (sym same)
       ∙ sym (step_writes m o out))
       ∙ sym (eager_lone ops op l (in_turn ops share) m b)

@@ -1,14 +1,24 @@
 -- From which stores and slots a block may run.
-use Rattle.std.specs.Prelude.{◌≡◌, ℕ, true, List, Option}
+use Rattle.std.specs.Prelude.{◌≡◌, ◌==◌, ℕ, Bool, false, true, ◌&&◌, List, length, Option, Some, None}
 use Rattle.std.specs.List.{list_all}
 use Rattle.std.specs.Option.{option_to_list}
+use Rattle.arr_view.specs.Views.{positions, same_lists}
 use Rattle.arr_ops.specs.declared.op.Op.{Op}
 use Rattle.arr_ops.specs.Fits.{fits}
-use Rattle.arr_ops.specs.Memory.{Memory, Slot, without_slots}
-use Rattle.arr_perform.specs.Performed.{shows}
+use Rattle.arr_ops.specs.Formed.{same_elem}
+use Rattle.arr_ops.specs.Memory.{Memory, Slot, lengths_of, without_slots}
 use Rattle.arr_store.specs.Slots.{slots_of}
 use Rattle.arr_store.specs.Stored.{Stored, cells}
 use Rattle.arr_loop.specs.Opened.{opened_for, unopened}
+
+-- the memory that a store and slots are
+abbrev pub memory : Stored → List Slot → Memory
+memory store list = record { bases = cells store; slots = slots_of list }
+
+-- the slot is there for the view that the operation shows
+abbrev pub shows : Op → Option Slot → Bool
+shows op None = false
+shows op (Some s) = same_elem s.elem op.from && (same_lists s.lengths (lengths_of op.first) && (length s.numbers == positions (lengths_of op.first)))
 
 -- the memory before a block was opened, with the slots as they are
 abbrev pub before_open : List Op → Stored → List Slot → Memory

@@ -8,12 +8,11 @@ ghost use Rattle.arr_ops.specs.Fits.{op_fits};
 ghost use Rattle.arr_ops.specs.Formed.{well_formed};
 ghost use Rattle.arr_ops.specs.Memory.{computed};
 ghost use Rattle.arr_ops.specs.Ops.{view_of};
-ghost use Rattle.arr_perform.specs.Performed.{lie_inside};
 ghost use Rattle.arr_store.specs.Cells.{takes, width_at};
 ghost use Rattle.arr_store.specs.Stored.{cells, memory_of};
 ghost use Rattle.arr_strips.specs.Columns.{first_taken, taken};
 ghost use Rattle.arr_ops.specs.Traffic.{axis_length};
-ghost use Rattle.arr_loop.specs.Numbers.{loads_each, row_at, same_inputs};
+ghost use Rattle.arr_loop.specs.Numbers.{loads_each, row_at, same_inputs, lie_inside};
 ghost use Rattle.arr_machine.specs.Kept.{inner_of};
 
 use crate::along::{Rows, fold_result, rows_of, scan_result};

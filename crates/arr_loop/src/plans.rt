@@ -7,10 +7,9 @@ ghost use Rattle.arr_ops.specs.Memory.{eager};
 ghost use Rattle.arr_ops.specs.Plans.{is_legal, numbered, ops_of};
 ghost use Rattle.arr_ops.specs.Traffic.{buffers, read_bytes, write_bytes};
 ghost use Rattle.arr_contract.specs.Prepared.{IsBlockOf};
-ghost use Rattle.arr_perform.specs.Performed.{memory};
 ghost use Rattle.arr_store.specs.Slots.{blank_slots, slots_of};
 ghost use Rattle.arr_store.specs.Stored.{cells, memory_of};
-ghost use Rattle.arr_loop.specs.Ready.{AreShown, IsOpen, before_open};
+ghost use Rattle.arr_loop.specs.Ready.{AreShown, IsOpen, before_open, memory};
 ghost use Rattle.arr_loop.specs.Opened.{buffers_for};
 
 use crate::NoMemory;

@@ -6,14 +6,13 @@ ghost use Rattle.arr_ops.specs.Ops.{freed_by, serial};
 ghost use Rattle.arr_store.specs.Cells.{takes, width_at};
 ghost use Rattle.arr_store.specs.Stored.{cells, memory_of};
 ghost use Rattle.arr_store.specs.Slots.{slots_of};
-ghost use Rattle.arr_perform.specs.Performed.{lie_inside, written};
 ghost use Rattle.arr_loop.specs.Ready.{IsOpen, before_open};
 ghost use Rattle.arr_ops.specs.Costs.{reads, total, weight, writes};
 ghost use Rattle.arr_num.specs.Numbers.{width};
 ghost use Rattle.arr_ops.specs.Fits.{op_fits};
 ghost use Rattle.arr_ops.specs.Formed.{well_formed};
 ghost use Rattle.arr_ops.specs.Memory.{computed, eager};
-ghost use Rattle.arr_loop.specs.Numbers.{loads_each};
+ghost use Rattle.arr_loop.specs.Numbers.{loads_each, lie_inside, written};
 
 use crate::closing::{drop_freed, frees};
 use crate::computing::compute;

@@ -17,7 +17,7 @@ use Rattle.arr_strips.proofs.Blocks.{Block, block_of}
 use Rattle.arr_strips.proofs.Sorts.{Freeing, sorts, walked_plain, walked_reducing, walked_showing}
 use Rattle.arr_machine.proofs.Axes.{input_view}
 
-few_positions : (v : Strided) → is_view v ≡ true → positions v.lengths ≤ 1048576
+pub few_positions : (v : Strided) → is_view v ≡ true → positions v.lengths ≤ 1048576
 few_positions v h =
     let a = both_right (has_rank v.lengths) _ h in
     let b = both_right (list_all (nat_le 1) v.lengths) _ a in

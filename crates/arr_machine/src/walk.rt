@@ -120,6 +120,7 @@ impl Machine {
         ensures kept { TypedKept ops.now numbers.new }
         ensures slots { SlotsMatch ops.now (slots_of slots.new) }
         ensures made { store.new.made ≡ store.old.made }
+        ensures room { self.new.room ≡ self.old.room }
         ensures loads { store.new.loads ≡ store.old.loads + block_positions ops.now * total (λ v. width_at (cells store.old v.base)) (reads ops.now) }
         ensures saves { store.new.stores ≡ store.old.stores + block_positions ops.now * total (λ v. width_at (cells store.old v.base)) (stores ops.now) }
     {

@@ -15,8 +15,7 @@ use Rattle.arr_ops.proofs.Pairs.{All_weaker}
 use Rattle.arr_ops.proofs.Spots.{all_left, all_right, formed_of, views_of}
 use Rattle.arr_heur.proofs.LinearPlan.{linear_legal}
 use Rattle.arr_heur.proofs.Merged.{greedy_legal}
-use Rattle.arr_perform.proofs.Blocks.{all_ops, ops_in}
-use Rattle.arr_perform.proofs.Picked.{all_block}
+use Rattle.arr_loop.proofs.Blocks.{all_block, all_ops, ops_in}
 use Rattle.arr_cert.specs.Texts.{is_spellable}
 use Rattle.arr_law.specs.declared.certificate.Certificate.{Certificate}
 use Rattle.arr_search.specs.declared.found.Found.{Found}

@@ -11,7 +11,7 @@ use Rattle.arr_ops.specs.Plans.{numbered, ops_of}
 use Rattle.arr_ops.specs.Traffic.{read_bytes, write_bytes}
 use Rattle.arr_ops.proofs.Alike.{identical_if, identical_symm, identical_trans, same_weight}
 use Rattle.arr_ops.proofs.Merged.{two_cover}
-use Rattle.arr_ops.proofs.Tests.{or_left, or_right}
+use Rattle.std.proofs.lemmas.Bool.{or_left, or_right}
 use Rattle.arr_heur.specs.Planners.{greedy_plan}
 use Rattle.arr_rewrite.specs.NormalForm.{normal_form}
 use Rattle.arr_run.specs.declared.choice.Choice.{Choice}

@@ -6,6 +6,7 @@ pub mod Lists
 pub mod Accepted
 pub mod Loops
 pub mod Partitions
+pub mod Labels
 pub mod Sharing
 pub mod Written
 pub mod Nodes

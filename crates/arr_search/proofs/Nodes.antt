@@ -31,7 +31,7 @@ use Rattle.arr_search.specs.declared.progress.Progress.{Progress}
 use Rattle.arr_search.specs.Counts.{is_open, open_pairs}
 use Rattle.arr_search.specs.Steps.{Pays}
 use Rattle.arr_search.specs.Running.{size, nodes, Running}
-use Rattle.arr_search.specs.Nodes.{IsDecided, IsNode, IsPlanned, IsSearch, is_written, next_pending}
+use Rattle.arr_search.specs.Nodes.{IsDecided, IsNode, IsPlanned, IsSearch, StaysSearch, is_written, next_pending}
 use Rattle.arr_search.specs.Turns.{Advanced, Stands, Settled, Worked}
 use Rattle.arr_search.proofs.Counts.{open-le, with_within}
 use Rattle.arr_search.proofs.Stepped.{Stepped, stepped, none, symmetric-with, plain-with}
@@ -302,6 +302,9 @@ cheaper_plan list budget pending p plan price legal costs low s =
       written = s.written;
     }
 
+pub stays_on : (list : List Op) (p q r : Progress) → StaysSearch list p q → StaysSearch list q r → StaysSearch list p r
+stays_on list p q r first second budget pending s = second budget pending (first budget pending s)
+
 -- ---- a state of the list
 
 pub known_at : (list : List Op) (s : Standing) → s.list ≡ list → known s ≡ facts_of (problem_of list) s.trail
@@ -332,6 +335,15 @@ saturated_node problem budget trail trail' tree tree' outcome s node =
     let F : Facts = facts_of problem trail in
     let done : Stepped problem F (facts_of problem trail') s.steps = subst (λ G. Stepped problem F G s.steps) (sym (facts_after problem trail trail' s.gives s.trail_is)) (stepped problem F s.steps s.gives s.are_steps) in
     record { roots = λ x e. done.grows x (node.roots x e); even = done.symmetric node.even; plain = done.plain node.plain }
+
+-- what is known after steps
+pub closed_node : (list : List Op) (s after : Standing) (budget : ℕ) (tree tree' : List Record) (outcome : Outcome) → s.list ≡ list → after.list ≡ s.list
+    → Saturated (problem_of s.list) budget s.trail after.trail tree tree' outcome → IsNode (problem_of list) (known s) → IsNode (problem_of list) (known after)
+closed_node list s after budget tree tree' outcome here first steps node =
+    let P : Problem = problem_of list in
+    let steps' : Saturated P budget s.trail after.trail tree tree' outcome = subst (λ (l : List Op). Saturated (problem_of l) budget s.trail after.trail tree tree' outcome) here steps in
+    let began : IsNode P (facts_of P s.trail) = subst (IsNode P) (known_at list s here) node in
+    subst (IsNode P) (sym (known_at list after (first ∙ here))) (saturated_node P budget s.trail after.trail tree tree' outcome steps' began)
 
 -- what is known after a decision and steps
 pub side_node : (list : List Op) (s : Standing) (now : Standing) (after : Standing) (f g budget : ℕ) (same : Bool) (tree tree' : List Record) (outcome : Outcome) → s.list ≡ list → now.list ≡ s.list → after.list ≡ now.list

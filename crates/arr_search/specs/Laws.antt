@@ -39,7 +39,8 @@ Starts =
 abbrev pub Improves : Type 0
 Improves =
     (problem : Problem) (greedy budget : ℕ) (pending : List Facts) (tree : List Record) (units least cost less : ℕ)
-    → Running problem greedy budget pending tree units least cost → less ≤ cost → Pays problem less → Running problem greedy budget pending tree units least less
+    → Running problem greedy budget pending tree units least cost → less ≤ cost → Pays problem less
+    → Running problem greedy budget pending tree units least less
 
 -- steps, and then two subtrees
 abbrev pub Branches : Type 0
@@ -48,7 +49,8 @@ Branches =
     → Running problem greedy budget (facts ∷ pending) tree units least cost → Steps problem facts steps gives
     → IsTrue (may_branch problem (after facts gives) f g) → (IsAmple problem budget → IsReady problem (after facts gives))
     → floor problem (after facts gives) < cost → units + length steps + 1 ≤ budget
-    → Running problem greedy budget (with_fact (Same f g) (after facts gives) ∷ with_fact (Apart f g) (after facts gives) ∷ pending) ((tree ++ steps) ++ Branch f g ∷ []) (units + length steps + 1) least cost
+    → Running problem greedy budget (with_fact (Same f g) (after facts gives) ∷ with_fact (Apart f g) (after facts gives) ∷ pending)
+    ((tree ++ steps) ++ Branch f g ∷ []) (units + length steps + 1) least cost
 
 -- steps, and then a leaf that no plan reaches; steps are taken only where the floor is below the cost
 abbrev pub Dies : Type 0
@@ -61,7 +63,8 @@ Dies =
 -- steps, and then a leaf by its worth: all is known there, or it is worth the cost, or the budget is spent
 abbrev pub Leaves : Type 0
 Leaves =
-    (problem : Problem) (greedy budget : ℕ) (facts : Facts) (pending : List Facts) (tree steps : List Record) (gives : List Fact) (charges : List Charge) (units least cost : ℕ)
+    (problem : Problem) (greedy budget : ℕ) (facts : Facts) (pending : List Facts) (tree steps : List Record) (gives : List Fact)
+    (charges : List Charge) (units least cost : ℕ)
     → Running problem greedy budget (facts ∷ pending) tree units least cost → Steps problem facts steps gives
     → IsTrue (is_leaf problem (after facts gives) charges) → floor problem (after facts gives) ≤ worth problem charges
     → (length steps ≡ 0) ⊎ (floor problem facts < cost) → units + length steps ≤ budget
@@ -85,7 +88,8 @@ FindsClosure =
 -- no more steps can be taken
 abbrev pub StepsAreFew : Type 0
 StepsAreFew =
-    (problem : Problem) (facts : Facts) (steps : List Record) (gives : List Fact) → Steps problem facts steps gives → length steps ≤ 3 * (problem.count * problem.count)
+    (problem : Problem) (facts : Facts) (steps : List Record) (gives : List Fact) → Steps problem facts steps gives
+    → length steps ≤ 3 * (problem.count * problem.count)
 
 -- a certificate with a legal plan, its cost and a tree that shows the bound is accepted
 abbrev pub TreesAreAccepted : Type 0

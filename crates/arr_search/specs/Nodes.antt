@@ -1,5 +1,5 @@
 -- What a search keeps true of its records and its plan, and what is known at a node.
-use Rattle.std.specs.Prelude.{◌≡◌, ℕ, ◌<◌, ◌≤◌, ◌⊎◌, true, false, Bool, ◌&&◌, ◌==◌, List, ◌∷◌, length, IsTrue}
+use Rattle.std.specs.Prelude.{◌≡◌, ℕ, ◌<◌, ◌≤◌, ◌⊎◌, true, false, Bool, ◌&&◌, ◌==◌, List, ◌∷◌, length, IsTrue, MatchOption, Option}
 use Rattle.std.specs.List.{list_all}
 use Rattle.arr_ops.specs.declared.op.Op.{Op}
 use Rattle.arr_ops.specs.Formed.{is_formed}
@@ -42,6 +42,14 @@ pub record IsSettledNode (problem : Problem) (facts : Facts) : Type 0 where
 abbrev pub IsDecided : Problem → Facts → Type 0
 IsDecided problem facts = (f g : ℕ) → may_branch problem facts f g ≡ false
 
+-- no operation of the list is one with which a node may branch on f
+abbrev pub HasNoPartner : List Op → Facts → ℕ → Type 0
+HasNoPartner list facts f = (g : ℕ) → g ≤ length list → may_branch (problem_of list) facts f g ≡ false
+
+-- a pair on which a node may branch; none only where it is decided
+abbrev pub MayPick : Problem → Facts → Option (ℕ × ℕ) → Type 0
+MayPick problem facts pair = MatchOption pair (IsDecided problem facts) (λ p. may_branch problem facts p.0 p.1 ≡ true)
+
 -- a legal plan in which two operations share a block exactly where that is known
 pub record IsPlanOf (list : List Op) (facts : Facts) (plan : List (List ℕ)) : Type 0 where
   pub legal : IsTrue (is_legal list plan)
@@ -66,6 +74,10 @@ pub record IsSearch (list : List Op) (budget : ℕ) (pending : List Facts) (p : 
   pub running : Running (problem_of list) (cost list (greedy_plan list)) budget pending p.tree p.units p.least p.cost
   pub planned : IsPlanned list p.plan p.cost
   pub written : list_all is_written p.tree ≡ true
+
+-- whatever it was a search of, it still is one
+abbrev pub StaysSearch : List Op → Progress → Progress → Type 0
+StaysSearch list p p' = (budget : ℕ) (pending : List Facts) → IsSearch list budget pending p → IsSearch list budget pending p'
 
 -- the nodes behind a node: two after a branch, none after a leaf
 abbrev pub next_pending : Facts → Next → List Facts → List Facts

@@ -35,7 +35,8 @@ abbrev pub IsReady : Problem → Facts → Type 0
 IsReady problem facts = (some : Facts) → Follows problem some → Within some facts
 
 pub record Running (problem : Problem) (greedy budget : ℕ) (pending : List Facts) (tree : List Record) (units least cost : ℕ) : Type 0 where
-  pub trees : (bound : ℕ) → bound ≤ least → (more : List Record) → walk problem 2 bound (root_facts problem ∷ []) (tree ++ more) ≡ walk problem 2 bound pending more
+  pub trees : (bound : ℕ) → bound ≤ least → (more : List Record)
+      → walk problem 2 bound (root_facts problem ∷ []) (tree ++ more) ≡ walk problem 2 bound pending more
   pub lows : (more : List Record) → are_low problem greedy (root_facts problem ∷ []) (tree ++ more) ≡ are_low problem greedy pending more
   pub least_is : least ≡ least_of problem greedy tree
   pub cheaper : cost ≤ greedy

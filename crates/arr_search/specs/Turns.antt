@@ -56,8 +56,10 @@ pub record Worked (list : List Op) (budget : ℕ) (trail trail' : List Fact) (p 
   pub trail_is : trail' ≡ trail ++ gives
   pub within : p'.units ≤ budget
   pub opens : MaySplit (problem_of list) (facts_of (problem_of list) trail') next
-  pub keeps : (pending : List Facts) → IsSearch list budget (facts_of (problem_of list) trail ∷ pending) p → IsSearch list budget (next_pending (facts_of (problem_of list) trail') next pending) p'
-  pub fewer : (pending : List Facts) → nodes (problem_of list) (next_pending (facts_of (problem_of list) trail') next pending) < nodes (problem_of list) (facts_of (problem_of list) trail ∷ pending)
+  pub keeps : (pending : List Facts) → IsSearch list budget (facts_of (problem_of list) trail ∷ pending) p
+      → IsSearch list budget (next_pending (facts_of (problem_of list) trail') next pending) p'
+  pub fewer : (pending : List Facts)
+      → nodes (problem_of list) (next_pending (facts_of (problem_of list) trail') next pending) < nodes (problem_of list) (facts_of (problem_of list) trail ∷ pending)
 
 -- ---- the nodes that wait, from the newest on
 
@@ -68,7 +70,8 @@ waiting problem trail (w ∷ waits) = facts_of problem (take w.mark trail ++ Apa
 -- each stands below the one before it, at a pair that is open there
 abbrev pub AreWaiting : Problem → List Fact → ℕ → List Waiting → Type 0
 AreWaiting problem trail n [] = Unit {0}
-AreWaiting problem trail n (w ∷ waits) = (w.mark ≤ n) × (may_branch problem (facts_of problem (take w.mark trail)) w.f w.g ≡ true) × AreWaiting problem trail w.mark waits
+AreWaiting problem trail n (w ∷ waits) =
+    (w.mark ≤ n) × (may_branch problem (facts_of problem (take w.mark trail)) w.f w.g ≡ true) × AreWaiting problem trail w.mark waits
 
 -- all nodes that are to come
 abbrev pub pending_at : Problem → List Fact → List Waiting → List Facts

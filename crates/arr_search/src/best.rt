@@ -1,15 +1,16 @@
 //! The search for a best plan.
-ghost use Rattle.std.specs.Prelude.{◌≡◌, ◌≤◌, ◌∷◌, [], ℕ, IfOk, IsTrue, List, length};
+ghost use Rattle.std.specs.Prelude.{◌≡◌, ◌≤◌, ◌∷◌, [], ℕ, IfOk, IsTrue, length};
 ghost use Rattle.arr_ops.specs.Formed.{is_formed};
 ghost use Rattle.arr_ops.specs.Plans.{is_legal};
-ghost use Rattle.arr_law.specs.Facts.{Facts, root_facts};
+ghost use Rattle.arr_law.specs.Facts.{root_facts};
 ghost use Rattle.arr_law.specs.ProblemOf.{problem_of};
 ghost use Rattle.arr_search.specs.Best.{IsBest};
-ghost use Rattle.arr_search.specs.Nodes.{IsSearch};
+ghost use Rattle.arr_search.specs.Nodes.{IsSearch, StaysSearch};
 
 use crate::NoMemory;
 use crate::explore::explore;
 use crate::found::Found;
+use crate::moves::try_moves;
 use crate::ops::ops_of;
 use crate::places::places_of;
 use crate::progress::Progress;
@@ -42,7 +43,7 @@ fn begin(alloc: Global, graph: &Graph, costs: &Costs) -> Result<Progress, NoMemo
 }
 
 /// Takes a legal plan in place of the best so far, where it costs less.
-fn improve(
+pub(crate) fn improve(
     alloc: Global,
     graph: &Graph,
     costs: &Costs,
@@ -51,7 +52,7 @@ fn improve(
 ) -> Result<(), NoMemory>
     requires costs { costs.now ≡ graph.now }
     requires legal { IsTrue (is_legal graph.now plan) }
-    ensures { IfOk result (λ done. (budget : ℕ) (pending : List Facts) → IsSearch graph.now budget pending progress.old → IsSearch graph.now budget pending progress.new) }
+    ensures { IfOk result (λ done. StaysSearch graph.now progress.old progress.new) }
 {
     let cost = costs.cost(alloc, &plan)?;
     if cost >= progress.cost {
@@ -118,6 +119,7 @@ pub fn search(
     let mut progress = begin(alloc, graph, costs)?;
     let other = linear(alloc, graph)?;
     improve(alloc, graph, costs, &mut progress, other)?;
+    try_moves(alloc, graph, costs, &views, &mut state, &mut progress)?;
     explore(alloc, graph, &views, &mut state, &mut progress, budget)?;
     finish(alloc, graph, number, budget, progress)
 }

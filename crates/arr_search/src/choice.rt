@@ -1,9 +1,9 @@
 //! On which pair a node branches.
-ghost use Rattle.std.specs.Prelude.{◌≡◌, ◌≤◌, ℕ, true, false, length, MatchOption};
+ghost use Rattle.std.specs.Prelude.{◌≡◌, true, MatchOption};
 ghost use Rattle.arr_law.specs.ProblemOf.{problem_of};
 ghost use Rattle.arr_law.specs.Trees.{may_branch};
 ghost use Rattle.arr_state.specs.States.{known};
-ghost use Rattle.arr_search.specs.Nodes.{IsDecided};
+ghost use Rattle.arr_search.specs.Nodes.{HasNoPartner, MayPick};
 
 use arr_deps::Graph;
 use arr_law::Fact;
@@ -24,7 +24,7 @@ pub(crate) fn may_branch(graph: &Graph, state: &State, f: u32, g: u32) -> bool
 /// The first partner with which a node may branch on an operation.
 fn partner_of(graph: &Graph, state: &State, f: u32) -> Option<u32>
     requires list { state.now.list ≡ graph.now }
-    ensures { MatchOption result ((g : ℕ) → g ≤ length graph.now → may_branch (problem_of graph.now) (known state.now) f g ≡ false) (λ g. may_branch (problem_of graph.now) (known state.now) f g ≡ true) }
+    ensures { MatchOption result (HasNoPartner graph.now (known state.now) f) (λ g. may_branch (problem_of graph.now) (known state.now) f g ≡ true) }
 {
     for g in 0..graph.len() + 1 {
         if may_branch(graph, state, f, g) {
@@ -37,7 +37,7 @@ fn partner_of(graph: &Graph, state: &State, f: u32) -> Option<u32>
 /// A pair on which a node may branch, if there is one.
 pub(crate) fn choose(graph: &Graph, state: &State) -> Option<(u32, u32)>
     requires list { state.now.list ≡ graph.now }
-    ensures { MatchOption result (IsDecided (problem_of graph.now) (known state.now)) (λ (f, g). may_branch (problem_of graph.now) (known state.now) f g ≡ true) }
+    ensures { MayPick (problem_of graph.now) (known state.now) result }
 {
     for f in 0..graph.len() + 1 {
         if let Some(g) = partner_of(graph, state, f) {

@@ -3,7 +3,7 @@ ghost use Rattle.std.specs.Prelude.{◌≡◌, ◌<◌, ◌≤◌, IfOk, IsTrue,
 ghost use Rattle.arr_law.specs.ProblemOf.{problem_of};
 ghost use Rattle.arr_law.specs.Trees.{may_branch};
 ghost use Rattle.arr_state.specs.States.{known};
-ghost use Rattle.arr_search.specs.Nodes.{IsDecided, IsNode};
+ghost use Rattle.arr_search.specs.Nodes.{IsNode, MayPick};
 
 use crate::NoMemory;
 use crate::choice::{choose, may_branch};
@@ -279,7 +279,7 @@ impl Candidates {
         requires node { IsNode (problem_of graph.now) (known state.old) }
         ensures list { state.new.list ≡ state.old.list }
         ensures kept { IfOk result (λ pair. state.new ≡ state.old) }
-        ensures picks { IfOk result (λ pair. MatchOption pair (IsDecided (problem_of graph.now) (known state.old)) (λ (f, g). may_branch (problem_of graph.now) (known state.old) f g ≡ true)) }
+        ensures picks { IfOk result (MayPick (problem_of graph.now) (known state.old)) }
     {
         self.find(alloc, graph, views, state, cost)?;
         self.try_again(alloc, graph, views, state, cost)?;

@@ -1,11 +1,11 @@
 //! Plans from labels: operations with one label share a block.
-ghost use Rattle.std.specs.Prelude.{◌≡◌, ◌≤◌, ◌<◌, ◌++◌, ◌∷◌, [], ◌==◌, ◌||◌, IfOk, cond, length, map, not};
+ghost use Rattle.std.specs.Prelude.{◌≡◌, ◌≤◌, ◌<◌, ◌++◌, ◌∷◌, [], IfOk, IsTrue, MatchOption, cond, length, map, nat_lt};
 ghost use Rattle.std.specs.List.{list_all};
-ghost use Rattle.arr_ops.specs.Plans.{not_empty};
-ghost use Rattle.arr_law.specs.Plans.{is_together, place_in};
-ghost use Rattle.arr_law.specs.Problem.{is_pair, operations};
+ghost use Rattle.arr_ops.specs.Plans.{is_legal};
+ghost use Rattle.arr_law.specs.Plans.{is_together};
+ghost use Rattle.arr_law.specs.Problem.{operations};
 ghost use Rattle.arr_law.specs.ProblemOf.{problem_of};
-ghost use Rattle.arr_search.specs.Parts.{parts, plan_by, with_label};
+ghost use Rattle.arr_search.specs.Parts.{if_some, may_share, parts, plan_by, with_label};
 
 use crate::NoMemory;
 use arr_deps::Graph;
@@ -36,7 +36,7 @@ fn with_label(alloc: Global, labels: &[u32], label: u32) -> Result<Vec<u32>, NoM
 }
 
 fn push_some(blocks: &mut Vec<Vec<u32>>, block: Vec<u32>) -> Result<(), NoMemory>
-    ensures { IfOk result (λ done. map (λ b. b.items) blocks.new.items ≡ map (λ b. b.items) blocks.old.items ++ cond (not_empty block.items) (block.items ∷ []) []) }
+    ensures { IfOk result (λ done. map (λ b. b.items) blocks.new.items ≡ map (λ b. b.items) blocks.old.items ++ if_some block.items) }
 {
     if block.len() > 0 {
         blocks.push(block)?;
@@ -64,7 +64,7 @@ fn may_share(graph: &Graph, labels: &[u32], f: u32, g: u32) -> bool
     requires first_most { f ≤ length graph.now }
     requires second_least { 0 < g }
     requires second_most { g ≤ length graph.now }
-    ensures { result ≡ (not (is_pair (problem_of graph.now) f g) || (not (place_in labels.now f == place_in labels.now g) || (problem_of graph.now).fusible f g)) }
+    ensures { result ≡ may_share (problem_of graph.now) labels.now f g }
 {
     if f == g {
         return true;
@@ -79,7 +79,7 @@ fn may_share_all(graph: &Graph, labels: &[u32], f: u32) -> bool
     requires all { length labels.now ≡ length graph.now }
     requires least { 0 < f }
     requires most { f ≤ length graph.now }
-    ensures { result ≡ list_all (λ g. not (is_pair (problem_of graph.now) f g) || (not (place_in labels.now f == place_in labels.now g) || (problem_of graph.now).fusible f g)) (operations (problem_of graph.now)) }
+    ensures { result ≡ list_all (may_share (problem_of graph.now) labels.now f) (operations (problem_of graph.now)) }
 {
     for k in 0..graph.len() {
         if !may_share(graph, labels, f, k + 1) {
@@ -117,4 +117,28 @@ pub(crate) fn plan_by(
     }
     let blocks = parts(alloc, labels)?;
     ordered(alloc, graph, blocks.as_slice())
+}
+
+/// Whether each label is below a count.
+fn are_below(labels: &[u32], count: u32) -> bool
+    ensures { result ≡ list_all (λ label. nat_lt label count) labels.now }
+{
+    labels.iter().all(|label| *label < count)
+}
+
+/// The plan in which operations share a block where they have one label, if it is legal.
+pub(crate) fn legal_plan(
+    alloc: Global,
+    graph: &Graph,
+    labels: &[u32],
+) -> Result<Option<Plan>, NoMemory>
+    ensures { IfOk result (λ plan. MatchOption plan (Unit {0}) (λ p. IsTrue (is_legal graph.now p))) }
+{
+    if labels.len() != graph.len() as usize {
+        return Ok(None);
+    }
+    if !are_below(labels, graph.len()) {
+        return Ok(None);
+    }
+    plan_by(alloc, graph, labels)
 }

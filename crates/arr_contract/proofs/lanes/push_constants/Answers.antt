@@ -1,4 +1,4 @@
-use Rattle.arr_perform.proofs.Operands.{first_kept, numbers_of_op}
+use Rattle.arr_contract.proofs.Makings.{first_kept, numbers_of_op}
 use Rattle.arr_contract.proofs.lanes.push_constants.Goals as goal
 
 pub constant_lane-requires : goal.constant_lane-requires

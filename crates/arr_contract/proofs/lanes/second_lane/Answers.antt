@@ -1,5 +1,4 @@
-use Rattle.arr_perform.proofs.Operands.{numbers_of_op}
-use Rattle.arr_contract.proofs.Makings.{second_kept}
+use Rattle.arr_contract.proofs.Makings.{numbers_of_op, second_kept}
 use Rattle.arr_contract.proofs.lanes.second_lane.Goals as goal
 
 pub constant_lane-requires : goal.constant_lane-requires

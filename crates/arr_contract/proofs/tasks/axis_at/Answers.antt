@@ -3,9 +3,7 @@ use Rattle.std.specs.Prelude.{nat_le}
 use Rattle.std.specs.List.{list_all}
 use Rattle.arr_view.specs.Views.{positions}
 use Rattle.arr_view.proofs.Checks.{lawful}
-use Rattle.arr_perform.proofs.Moving.{few_positions}
-use Rattle.arr_perform.proofs.Results.{behind, few_inner}
-use Rattle.arr_contract.proofs.Makings.{all_front, few_front}
+use Rattle.arr_contract.proofs.Lengths.{all_front, behind, few_back, few_front}
 use Rattle.arr_contract.proofs.tasks.axis_at.Goals as goal
 
 pub product-requires-clause-each : goal.product-requires-clause-each
@@ -15,10 +13,10 @@ product-requires-clause-each c =
 pub product-requires-clause-few : goal.product-requires-clause-few
 product-requires-clause-few c =
     subst (λ xs. positions (take c.args.axis xs) ≤ 1048576) (sym c.shape-shape.ensures.value)
-    (few_front c.args.view.now.lengths c.args.axis (lawful c.args.view.now c.shape-shape.ensures.lawful).lengths (few_positions c.args.view.now c.shape-shape.ensures.lawful) c.requires)
+    (few_front c.args.view.now.lengths c.args.axis (lawful c.args.view.now c.shape-shape.ensures.lawful).lengths (lawful c.args.view.now c.shape-shape.ensures.lawful).size c.requires)
 
 pub product-requires-2-clause-few : goal.product-requires-2-clause-few
 product-requires-2-clause-few c =
     subst (λ xs. positions (take (length xs - (c.args.axis + 1)) (drop (c.args.axis + 1) xs)) ≤ 1048576) (sym c.shape-shape.ensures.value)
     (subst (λ l. positions l ≤ 1048576) (sym (behind c.args.view.now.lengths c.args.axis))
-    (few_inner c.args.view.now.lengths c.args.axis (lawful c.args.view.now c.shape-shape.ensures.lawful).lengths (few_positions c.args.view.now c.shape-shape.ensures.lawful) c.requires))
+    (few_back c.args.view.now.lengths c.args.axis (lawful c.args.view.now c.shape-shape.ensures.lawful).lengths (lawful c.args.view.now c.shape-shape.ensures.lawful).size c.requires))

@@ -1,7 +1,7 @@
 use Rattle.std.proofs.Common.{◌≡◌, ◌*◌, ◌≤◌, ap, arith, drop, get_or, rules, subst, sym}
 use Rattle.std.proofs.Math.ListN.{drop_of_length-le}
 use Rattle.arr_view.specs.Views.{positions}
-use Rattle.arr_perform.proofs.Products.{next_product}
+use Rattle.arr_contract.proofs.Lengths.{next_product}
 use Rattle.arr_contract.proofs.tasks.product.Goals as goal
 
 pub overflow_mul-count : goal.overflow_mul-count

@@ -8,12 +8,11 @@ use Rattle.arr_num.specs.Numbers.{fold_start, in_type, value}
 use Rattle.arr_num.proofs.Reading.{read}
 use Rattle.arr_view.specs.Views.{elements, positions}
 use Rattle.arr_ops.proofs.Typed.{in_type_value}
-use Rattle.arr_perform.specs.Performed.{lie_inside}
-use Rattle.arr_perform.proofs.Moving.{small_width}
-use Rattle.arr_perform.proofs.Rows.{start_in}
+use Rattle.arr_loop.proofs.Moves.{small_width}
+use Rattle.arr_machine.proofs.Starts.{start_in}
 use Rattle.arr_store.specs.Cells.{width_at}
 use Rattle.arr_store.specs.Stored.{cells, memory_of}
-use Rattle.arr_loop.specs.Numbers.{row_at}
+use Rattle.arr_loop.specs.Numbers.{row_at, lie_inside}
 use Rattle.arr_loop.proofs.Axes.{Input, fold_end, fold_loads, fold_more, input_of, line_lies, row_few, there}
 use Rattle.arr_loop.proofs.along.fold_result.Goals as goal
 

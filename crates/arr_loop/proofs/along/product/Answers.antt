@@ -2,7 +2,7 @@ use Rattle.std.proofs.Common.{◌≡◌, ◌*◌, ◌≤◌, ap, arith, drop, ru
 use Rattle.std.proofs.Math.ListN.{drop_of_length-le}
 use Rattle.arr_view.specs.Views.{positions}
 use Rattle.arr_view.proofs.Counting.{some_position}
-use Rattle.arr_perform.proofs.Products.{next_product}
+use Rattle.arr_contract.proofs.Lengths.{next_product}
 use Rattle.arr_loop.proofs.along.product.Goals as goal
 
 pub overflow_mul-count : goal.overflow_mul-count

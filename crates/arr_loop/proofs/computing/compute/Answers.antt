@@ -10,7 +10,7 @@ use Rattle.arr_view.specs.Views.{positions}
 use Rattle.arr_ops.specs.Memory.{computed}
 use Rattle.arr_ops.specs.Traffic.{axis_length}
 use Rattle.arr_ops.proofs.Serving.{length-computed}
-use Rattle.arr_perform.proofs.Moving.{few_positions}
+use Rattle.arr_machine.proofs.Few.{few_positions}
 use Rattle.arr_store.specs.Stored.{memory_of}
 use Rattle.arr_contract.specs.Prepared.{PreparedBlock}
 use Rattle.arr_loop.specs.Numbers.{loads_each}

@@ -7,12 +7,10 @@ use Rattle.arr_num.proofs.Reading.{read}
 use Rattle.arr_kernel.specs.Inputs.{takes_left, takes_right}
 use Rattle.arr_view.specs.Views.{elements, positions}
 use Rattle.arr_ops.specs.Ops.{view_of}
-use Rattle.arr_perform.specs.Performed.{lie_inside}
-use Rattle.arr_perform.proofs.Moving.{few_positions}
-use Rattle.arr_perform.proofs.Outputs.{out_view}
-use Rattle.arr_perform.proofs.Results.{first_inside, second_inside, types_of_op}
+use Rattle.arr_machine.proofs.Few.{few_positions}
+use Rattle.arr_loop.proofs.Needs.{first_inside, out_view, second_inside, types_of_op}
 use Rattle.arr_strips.specs.Columns.{taken}
-use Rattle.arr_loop.specs.Numbers.{loads_each, row_at, same_inputs}
+use Rattle.arr_loop.specs.Numbers.{loads_each, row_at, same_inputs, lie_inside}
 use Rattle.arr_view.specs.Strided.{Strided}
 use Rattle.arr_ops.specs.Costs.{total}
 use Rattle.arr_store.specs.Cells.{width_at}

@@ -13,9 +13,8 @@ use Rattle.arr_ops.proofs.Spots.{computes_of, operands_of}
 use Rattle.arr_ops.proofs.Tests.{test_all}
 use Rattle.arr_ops.proofs.Typed.{computed_in}
 use Rattle.arr_num.specs.Numbers.{in_type}
-use Rattle.arr_perform.specs.Performed.{lie_inside}
-use Rattle.arr_perform.proofs.Operands.{output_need, outputs_met}
-use Rattle.arr_perform.proofs.Outputs.{out_inside, out_takes}
+use Rattle.arr_loop.specs.Numbers.{lie_inside}
+use Rattle.arr_loop.proofs.Needs.{out_inside, out_takes, output_need, outputs_met}
 use Rattle.arr_store.specs.Cells.{takes, width_at}
 use Rattle.arr_store.specs.Stored.{cells, memory_of}
 use Rattle.arr_loop.proofs.Elements.{width_met}

@@ -7,7 +7,7 @@ use Rattle.arr_ops.proofs.Parts.{length-elements}
 use Rattle.arr_store.specs.Cells.{assigned, size_at, takes, width_at, with_number}
 use Rattle.arr_store.specs.Stored.{cells}
 use Rattle.arr_store.proofs.Pages.{passes}
-use Rattle.arr_perform.specs.Performed.{written}
+use Rattle.arr_loop.specs.Numbers.{written}
 use Rattle.arr_loop.proofs.Moves.{place_inside, size_written, takes_written, width_written, written_more}
 use Rattle.arr_loop.proofs.serial.write_out.Goals as goal
 

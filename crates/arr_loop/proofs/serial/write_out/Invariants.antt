@@ -1,6 +1,6 @@
 use Rattle.std.proofs.Common.{◌≡◌, ◌+◌, ◌*◌, take}
 use Rattle.arr_view.specs.Views.{elements}
-use Rattle.arr_perform.specs.Performed.{written}
+use Rattle.arr_loop.specs.Numbers.{written}
 use Rattle.arr_store.specs.Cells.{width_at}
 use Rattle.arr_store.specs.Stored.{cells}
 use Rattle.arr_loop.proofs.serial.write_out.Given as goal

@@ -31,7 +31,7 @@ run_plan-requires-clause-fitting c =
     ap (fits m) c.deref-2.ensures.value ∙ s.fitting
 
 pub run_plan-requires-clause-blank : goal.run_plan-requires-clause-blank
-run_plan-requires-clause-blank c = c.in_ok-for_list.ensures ∙ ap blank_slots (c.deref.ensures.value ∙ sym c.deref-2.ensures.value)
+run_plan-requires-clause-blank c = c.in_ok-slots.ensures ∙ ap blank_slots (c.deref.ensures.value ∙ sym c.deref-2.ensures.value)
 
 pub run_plan-requires-clause-few : goal.run_plan-requires-clause-few
 run_plan-requires-clause-few c =

@@ -7,7 +7,7 @@ use Rattle.arr_ops.specs.Plans.{numbered, ops_of}
 use Rattle.arr_ops.specs.Traffic.{contracted, scratch}
 use Rattle.arr_strips.specs.Registers.{register_views}
 use Rattle.arr_machine.specs.Machines.{IsMachineOf}
-use Rattle.arr_contract.specs.Prepared.{may_share_block}
+use Rattle.arr_contract.specs.Prepared.{may_share_block, strip}
 use Rattle.arr_contract.proofs.Counts.{few_ops}
 use Rattle.arr_contract.proofs.Parallel.{block_typed, parallel_block}
 use Rattle.arr_contract.proofs.Shared.{shares_block}
@@ -50,5 +50,6 @@ invariant_of-result c =
       c.in_ok-contracted_bases.ensures ∙ ap contracted c.as_slice-3.ensures.value,
       c.in_ok-is_serial.ensures ∙ ap (list_any serial) c.as_slice-4.ensures.value,
       numbers ∙ c.in_ok-count.ensures ∙ ap scratch c.as_slice-5.ensures.value,
-      (λ none. subst (λ (ops : List Op). IsMachineOf ops c.in_ok-machine.machine) c.as_slice-7.ensures.value (c.in_ok-machine.ensures none)),
+      (λ none. subst (λ (ops : List Op). IsMachineOf ops c.in_ok-machine.machine) c.as_slice-7.ensures.value (c.in_ok-machine.ensures.machine none)),
+      (λ none. c.in_ok-machine.ensures.strip none ∙ ap strip c.as_slice-7.ensures.value),
     )

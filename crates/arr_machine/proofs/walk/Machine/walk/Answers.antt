@@ -54,6 +54,7 @@ loop-at-preserved c =
       loads = moved_on c.run_strip.new.store.loads c.loop-at.store.loads c.args.store.now.loads c.loop-at.at c.min.result _ _ c.run_strip.ensures.loads c.loop-at.invariant.loads reads_alike;
       saves = moved_on c.run_strip.new.store.stores c.loop-at.store.stores c.args.store.now.stores c.loop-at.at c.min.result _ _ c.run_strip.ensures.saves c.loop-at.invariant.saves stores_alike;
       made = c.run_strip.ensures.made ∙ c.loop-at.invariant.made;
+      room = c.run_strip.ensures.room ∙ c.loop-at.invariant.room;
     }
 
 pub returns-clause-walks : goal.returns-clause-walks

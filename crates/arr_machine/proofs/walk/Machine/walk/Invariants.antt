@@ -25,6 +25,7 @@ invariant-loop-at l =
       loads : l.store.loads ≡ l.fn.store.loads + l.at * total (λ v. width_at (cells l.fn.store v.base)) (reads l.ops);
       saves : l.store.stores ≡ l.fn.store.stores + l.at * total (λ v. width_at (cells l.fn.store v.base)) (stores l.ops);
       made : l.store.made ≡ l.fn.store.made;
+      room : l.self.room ≡ l.fn.self.room;
     }
 
 abbrev pub decreases-loop-at : goal.decreases-loop-at

@@ -1,9 +1,0 @@
-use Rattle.std.proofs.Common.{rules}
-use Rattle.arr_perform.proofs.Products.{next_product}
-use Rattle.arr_perform.proofs.lengths.product.Goals as goal
-
-pub overflow_mul-count : goal.overflow_mul-count
-overflow_mul-count c =
-    let small = next_product c.loop-length.count c.loop-length.length-index c.args.lengths.now c.requires.each c.loop-length-test.true c.loop-length.invariant in
-    let few = c.requires.few in
-    search rules

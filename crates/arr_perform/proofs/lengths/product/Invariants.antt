@@ -1,6 +1,0 @@
-use Rattle.std.proofs.Common.{◌≡◌, ◌*◌, drop}
-use Rattle.arr_view.specs.Views.{positions}
-use Rattle.arr_perform.proofs.lengths.product.Given as goal
-
-abbrev pub invariant-loop-length : goal.invariant-loop-length
-invariant-loop-length l = l.count * positions (drop l.length-index l.lengths) ≡ positions l.lengths

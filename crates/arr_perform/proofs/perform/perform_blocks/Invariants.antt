@@ -1,6 +1,0 @@
-use Rattle.std.proofs.Common.{drop, map}
-use Rattle.arr_perform.proofs.Blocks.{Running}
-use Rattle.arr_perform.proofs.perform.perform_blocks.Given as goal
-
-abbrev pub invariant-loop-block : goal.invariant-loop-block
-invariant-loop-block l = Running l.ops l.fn.store l.store l.fn.slots l.slots (map (λ b. b.items) l.blocks) (map (λ b. b.items) (drop l.block-index l.blocks))
