@@ -610,7 +610,17 @@ UNKNOWN = [
     ['check'],
     ['check', 'x', 'y'],
     ['Check', 'x'],
-    ['demo', '1'],
+    ['demo'],
+    ['demo', ''],
+    ['demo', 'x'],
+    ['demo', '1x'],
+    ['demo', '-1'],
+    ['demo', '+1'],
+    ['demo', ' 1'],
+    ['demo', '1', '2'],
+    ['demo', '18446744073709551616'],
+    ['demo', '00018446744073709551616'],
+    ['Demo', '1'],
 ]
 
 # A script, a proof of its one flush line by line, and what is written of it.

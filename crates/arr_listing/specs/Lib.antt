@@ -1,4 +1,5 @@
 pub mod Texts
 pub mod Plans
 pub mod Shown
+pub mod Totals
 pub mod Examples

@@ -3,9 +3,11 @@ pub mod Texts
 pub mod Chosen
 pub mod Pieces
 pub mod Checked
+pub mod Demo
 pub mod Answers
 pub mod Shown
 pub mod Parts
 pub mod Checking
 pub mod Flushes
+pub mod Summing
 pub mod Laws

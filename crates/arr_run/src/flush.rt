@@ -68,7 +68,7 @@ pub struct Report {
 }
 
 /// How many blocks a plan has.
-fn block_count(plan: &Plan) -> u32
+pub(crate) fn block_count(plan: &Plan) -> u32
     requires { length plan.now ≤ 256 }
     ensures { result ≡ length plan.now }
 {

@@ -11,6 +11,9 @@
 //! [`flush_once`] runs one list: it is rewritten, planned, listed, run block by block, and printed (`Reports` in specs/Flushes.antt). The counters of the
 //! store rise by what the blocks of the plan that was chosen read, write and make (`Moves`), and so over a whole run (`rise_of` in specs/Pieces.antt).
 //!
+//! `demo N` runs a script of its own with best, and writes what each plan costs and moves, and the plain sum of each eager array (`demo_text` in
+//! specs/Answers.antt, of the lines in specs/Demo.antt).
+//!
 //! A fault of reading or writing is answered only where the source or the sink counted one in this call (clause `blames`), and an
 //! accepted script is not refused (`complete`). Want of memory alone may come anywhere. What follows from the relation for a caller
 //! stands in `laws.rt`.
@@ -18,6 +21,7 @@
 
 mod checking;
 mod choice;
+mod demo;
 mod flush;
 mod head;
 mod laws;
@@ -25,6 +29,7 @@ mod parts;
 mod planning;
 mod program;
 mod script;
+mod summary;
 mod texts;
 mod words;
 

@@ -21,7 +21,7 @@ use arr_store::Store;
 use std::alloc::Global;
 
 /// Runs a gather.
-fn run_gather(alloc: Global, op: &Gather, store: &mut Store) -> Result<(), RunFault>
+pub(crate) fn run_gather(alloc: Global, op: &Gather, store: &mut Store) -> Result<(), RunFault>
     requires lawful { is_gather op.now ≡ true }
     requires fitting { gather_fits (memory_of store.old) op.now ≡ true }
     requires counts { CountsBelow (2 ^ 60) store.old }
@@ -37,7 +37,7 @@ fn run_gather(alloc: Global, op: &Gather, store: &mut Store) -> Result<(), RunFa
 }
 
 /// Runs a scatter.
-fn run_scatter(alloc: Global, op: &Scatter, store: &mut Store) -> Result<(), RunFault>
+pub(crate) fn run_scatter(alloc: Global, op: &Scatter, store: &mut Store) -> Result<(), RunFault>
     requires lawful { is_scatter op.now ≡ true }
     requires fitting { scatter_fits (memory_of store.old) op.now ≡ true }
     requires counts { CountsBelow (2 ^ 60) store.old }
@@ -53,7 +53,7 @@ fn run_scatter(alloc: Global, op: &Scatter, store: &mut Store) -> Result<(), Run
 }
 
 /// The number of the next flush behind a part.
-fn number_behind(part: &Part, number: u32) -> u32
+pub(crate) fn number_behind(part: &Part, number: u32) -> u32
     requires { number < 2 ^ 32 - 1 }
     ensures { result ≡ number_behind part.now number }
 {

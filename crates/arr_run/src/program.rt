@@ -1,5 +1,5 @@
 //! What the program does.
-ghost use Rattle.std.specs.Prelude.{◌≡◌, ◌⊎◌, ◌≤◌, ◌<◌, ◌*◌, ◌^◌, List, ℕ, map, length, true, None, Some, IsSome, IfOk};
+ghost use Rattle.std.specs.Prelude.{◌≡◌, ◌⊎◌, ◌≤◌, ◌<◌, ◌*◌, ◌^◌, List, ℕ, Option, map, length, true, None, Some, IsSome, IfOk};
 ghost use Rattle.std.specs.List.{list_all};
 ghost use Rattle.std.specs.String.{string_bytes};
 ghost use Rattle.arr_io.specs.Causes.{Rose};
@@ -10,16 +10,19 @@ ghost use Rattle.arr_store.specs.Stored.{Stored, cells, memory_of};
 ghost use Rattle.arr_run.specs.Answers.{Accepts, Blames, Finishes, HasRead, IsReadOut, Serves, is_final};
 ghost use Rattle.arr_run.specs.Checking.{Judges};
 ghost use Rattle.arr_run.specs.Parts.{BrokeIn, CountsBelow, Ended, PartsWrote, StoppedIn};
+ghost use Rattle.arr_run.specs.Summing.{DemoBroke, DemoCut, DemoWrote};
 ghost use Rattle.arr_run.specs.Texts.{refusal_text};
 ghost use Rattle.arr_run.specs.Words.{command_of};
 
 use crate::checking::{Stop, check_parts};
 use crate::choice::Choice;
+use crate::demo::run_demo;
 use crate::flush::RunFault;
 use crate::parts::run_parts;
 use crate::script::{MOST_BYTES, ScriptFault, parts_of_text};
 use crate::texts::{USAGE, accepted_line, refusal_text, rejected_line};
 use crate::words::{Command, named_command};
+use arr_demo::demo_script;
 use arr_io::{NoMemory, ReadFailure, Sink, Source, WriteFault, read_up_to, write_all};
 use arr_record::Part;
 use arr_store::Store;
@@ -45,16 +48,18 @@ const REJECTED: u8 = 6;
 ///
 /// The words are those of the command line without the program's name. `run` runs the script that `script` gives, on `store`, with the planner
 /// and the listing that the words behind it choose; the proof isn't read. `check FILE` checks the certificates that `proof` gives against the
-/// flushes of the script; the store isn't used. The store has no base at first. The statuses are:
+/// flushes of the script; the store isn't used. `demo N` runs the script that the number stands for on `store`, and writes what its plans cost
+/// and what its arrays sum to; neither source is read (docs/DEMO.md). The store has no base at first. The statuses are:
 ///
-/// - 0: all was done, and the script was read to its end; plans and certificates, where they are listed, and the arrays printed were written,
+/// - 0: all was done, and the script, where it is read, was read to its end; plans and certificates, where they are listed, and the arrays printed were written,
 ///   and the store has no base.
 /// - 1: the script is refused; the line of the refusal was written, and the store is as it was.
 /// - 2: the words name no command; the usage line was written, and the store is as it was.
 /// - 3: a read of the script or of the proof failed; nothing was written, or with `check` the lines of some first flushes; the store is as it
 ///   was.
 /// - 4: a write failed; a front of the text was written. With an accepted script the store is what its parts leave up to the list in whose
-///   arrays the first missing byte stands, or up to the one before the list in whose plan or certificate it stands; else it is as it was.
+///   arrays the first missing byte stands, or up to the one before the list in whose plan or certificate it stands; else it is as it was. Of
+///   the store of a demo nothing is said.
 /// - 5: no memory is left; a front of the text was written. With words that name no command it never comes.
 /// - 6: the proof is rejected; the lines of the flushes before and the line of the rejection were written, and the store is as it was.
 pub fn serve<S: Source, C: Source, K: Sink>(
@@ -80,15 +85,21 @@ pub fn serve<S: Source, C: Source, K: Sink>(
     ensures complete { (steps : List Step) → IsSome (command_of (map string_bytes words.now)) → Accepts (S.left script.old) steps
         → (Rose (S.faults script.old) (S.faults script.new) → ⊥) → (Rose (C.faults proof.old) (C.faults proof.new) → ⊥)
         → (Rose (K.faults sink.old) (K.faults sink.new) → ⊥) → Finishes (command_of (map string_bytes words.now)) result }
+    // A demo is run, unless a fault or want of memory came.
+    ensures demo { (number : ℕ) → command_of (map string_bytes words.now) ≡ Some (Command.Demo number)
+        → (result ≡ 0) ⊎ (result ≡ 4) ⊎ (result ≡ 5) }
     // What was read.
-    ensures read_out { HasRead result → IsReadOut (S.left script.old) (S.left script.new) }
+    ensures read_out { ((number : ℕ) → command_of (map string_bytes words.now) ≡ Some (Command.Demo number) → ⊥)
+        → HasRead result → IsReadOut (S.left script.old) (S.left script.new) }
     ensures proof_out { result ≡ 0 → command_of (map string_bytes words.now) ≡ Some Command.Check → IsAtEnd (C.left proof.new) }
     ensures script { command_of (map string_bytes words.now) ≡ None → script.new ≡ script.old }
+    ensures unread { (number : ℕ) → command_of (map string_bytes words.now) ≡ Some (Command.Demo number) → script.new ≡ script.old }
     ensures proof { (command_of (map string_bytes words.now) ≡ Some Command.Check → ⊥) → proof.new ≡ proof.old }
 {
     match named_command(words) {
         Some(Command::Run(choice)) => run(alloc, choice, store, script, sink),
         Some(Command::Check) => check_script(alloc, script, proof, sink),
+        Some(Command::Demo(number)) => demo(alloc, number, store, sink),
         None => match write_all(sink, USAGE.as_bytes()) {
             Ok(()) => WRONG_WORDS,
             Err(WriteFault) => WRITE_FAULT,
@@ -154,6 +165,58 @@ fn run_all<K: Sink>(
     ensures broke { result ≡ 5 → BrokeIn choice (memory_of store.old) parts.now (K.written sink.old) (K.written sink.new) }
 {
     match run_parts(alloc, choice, parts, store, sink) {
+        Ok(()) => DONE,
+        Err(RunFault::WriteFault) => WRITE_FAULT,
+        Err(RunFault::NoMemory) => OUT_OF_MEMORY,
+    }
+}
+
+/// Runs the script of the number as a demo: `serve` with the words of `demo`.
+fn demo<K: Sink>(alloc: Global, number: u64, store: &mut Store, sink: &mut K) -> u8
+    requires empty { (b : ℕ) → cells store.old b ≡ None }
+    requires loads { store.old.loads < 2 ^ 59 }
+    requires stores { store.old.stores < 2 ^ 59 }
+    requires made { store.old.made < 2 ^ 59 }
+    ensures served { (script proof : Option (List ℕ)) → Serves (Some (Command.Demo number)) script proof
+        result (K.written sink.old) (K.written sink.new) store.old store.new }
+    ensures known { (result ≡ 0) ⊎ (result ≡ 4) ⊎ (result ≡ 5) }
+    ensures emptied { result ≡ 0 → (b : ℕ) → cells store.new b ≡ None }
+    ensures blames { (reads proofs : ℕ) → Blames result reads reads proofs proofs (K.faults sink.old) (K.faults sink.new) }
+    ensures complete { (Rose (K.faults sink.old) (K.faults sink.new) → ⊥) → (result ≡ 0) ⊎ (result ≡ 5) }
+{
+    let Ok(script) = demo_script(alloc, number) else {
+        return OUT_OF_MEMORY;
+    };
+    let text = script.as_bytes();
+    match parts_of_text(alloc, text) {
+        Ok(parts) => sum_all(alloc, text, &parts, store, sink),
+        Err(ScriptFault::Refused(_)) => unreachable!(),
+        Err(ScriptFault::NoMemory) => OUT_OF_MEMORY,
+    }
+}
+
+/// Runs the parts of a demo's script.
+fn sum_all<K: Sink>(
+    alloc: Global,
+    script: &[u8],
+    parts: &[Part],
+    store: &mut Store,
+    sink: &mut K,
+) -> u8
+    requires each { list_all is_part parts.now ≡ true }
+    requires fitting { each_fits (memory_of store.old) parts.now ≡ true }
+    requires few { length parts.now ≤ 4_194_304 }
+    requires counts { CountsBelow (2 ^ 59) store.old }
+    ensures known { (result ≡ 0) ⊎ (result ≡ 4) ⊎ (result ≡ 5) }
+    ensures wrote { result ≡ 0 → DemoWrote script.now (memory_of store.old) parts.now
+        (K.written sink.old) (K.written sink.new) store.old store.new }
+    ensures later { K.faults sink.old ≤ K.faults sink.new }
+    ensures cause { result ≡ 4 → Rose (K.faults sink.old) (K.faults sink.new) }
+    ensures memory { result ≡ 0 → memory_of store.new ≡ after_parts (memory_of store.old) parts.now }
+    ensures cut { result ≡ 4 → DemoCut script.now (memory_of store.old) parts.now (K.written sink.old) (K.written sink.new) }
+    ensures broke { result ≡ 5 → DemoBroke script.now (memory_of store.old) parts.now (K.written sink.old) (K.written sink.new) }
+{
+    match run_demo(alloc, script, parts, store, sink) {
         Ok(()) => DONE,
         Err(RunFault::WriteFault) => WRITE_FAULT,
         Err(RunFault::NoMemory) => OUT_OF_MEMORY,
