@@ -6,7 +6,6 @@ ghost use Rattle.std.specs.Option.{option_to_list};
 ghost use Rattle.arr_view.specs.Views.{identical};
 ghost use Rattle.arr_ops.specs.Ops.{views};
 ghost use Rattle.arr_sets.specs.Bits.{is_set};
-ghost use Rattle.arr_law.specs.Facts.{Facts};
 ghost use Rattle.arr_law.specs.Floor.{IsSymmetric};
 ghost use Rattle.arr_law.specs.declared.fact.Fact.TheVariants.{Apart};
 ghost use Rattle.arr_state.specs.States.{known};

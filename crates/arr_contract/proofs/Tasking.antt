@@ -5,7 +5,7 @@ use Rattle.std.specs.List.{AllByRecursion}
 use Rattle.std.proofs.lemmas.Bool.{false≢true, true≢false}
 use Rattle.arr_num.specs.declared.code.Code.{Code}
 use Rattle.arr_num.specs.declared.code.Code.TheVariants.{Range}
-use Rattle.arr_num.specs.Kinds.{Kind, Binary, Unary, Counting, Ending, Printing, Reduction, Scan, binds_one, binds_two, counts, folds, is_element_wise, is_fold, is_reduction, is_scan, kind, scans}
+use Rattle.arr_num.specs.Kinds.{Kind, Binary, Unary, Counting, Ending, Printing, Reduction, Scan, binds_one, binds_two, counts, folds, is_element_wise, is_reduction, is_scan, kind, scans}
 use Rattle.arr_view.specs.Strided.{Strided}
 use Rattle.arr_ops.specs.declared.op.Op.{Op}
 use Rattle.arr_ops.specs.declared.op.Operand.{Operand}

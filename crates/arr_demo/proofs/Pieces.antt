@@ -12,7 +12,7 @@ use Rattle.arr_syntax.specs.declared.token.Token.TheVariants as token
 use Rattle.arr_syntax.specs.declared.token.Sign.{Sign}
 use Rattle.arr_syntax.specs.declared.token.Sign.TheVariants as sign
 use Rattle.arr_syntax.specs.Tokens as syntax
-use Rattle.arr_syntax.specs.Tokens.{is_blank, is_digit, is_letter, is_word_byte, piece, items_from, put, place_behind, word_of, number_of, sign_of_two, sign_or_bad, sign_doubled, sign_with_equal, comment}
+use Rattle.arr_syntax.specs.Tokens.{is_blank, is_digit, is_letter, is_word_byte, piece, items_from, put, place_behind, word_of, number_of, sign_of_two, sign_or_bad, sign_doubled, sign_with_equal}
 use Rattle.arr_syntax.proofs.Cutting.{cut_one, last_cut}
 
 -- ---- pieces

@@ -1,12 +1,12 @@
 -- What a plan loads and what it stores is each a part of what it costs.
-use Rattle.std.proofs.Common.{◌≡◌, ⊎_elim, ℕ, ◌+◌, ◌<◌, ◌≤◌, List, [], ◌∷◌, ◌++◌, ◌||◌, Bool, true, false, map, refl, ap, sym, ◌∙◌, subst, arith, append-nil}
+use Rattle.std.proofs.Common.{◌≡◌, ⊎_elim, ℕ, ◌+◌, ◌<◌, ◌≤◌, List, [], ◌∷◌, ◌++◌, ◌||◌, true, false, refl, ap, ◌∙◌, arith}
 use Rattle.std.specs.Prelude.{◌≢◌}
 use Rattle.std.specs.List.{AllByRecursion, list_any}
 use Rattle.std.proofs.lemmas.List.Folds.{list_any-append}
 use Rattle.arr_view.specs.Strided.{Strided}
 use Rattle.arr_view.specs.Views.{identical}
 use Rattle.arr_ops.specs.declared.op.Op.{Op}
-use Rattle.arr_ops.specs.Costs.{all_reads, all_writes, block_cost, cost, distinct, ext, reads, total, weight, writes}
+use Rattle.arr_ops.specs.Costs.{all_reads, all_writes, block_cost, cost, distinct, total, weight}
 use Rattle.arr_ops.specs.Plans.{numbered, ops_of}
 use Rattle.arr_ops.specs.Traffic.{read_bytes, write_bytes}
 use Rattle.arr_ops.proofs.Alike.{identical_if, identical_symm, identical_trans, same_weight}
@@ -14,11 +14,10 @@ use Rattle.arr_ops.proofs.Merged.{two_cover}
 use Rattle.std.proofs.lemmas.Bool.{or_left, or_right}
 use Rattle.arr_heur.specs.Planners.{greedy_plan}
 use Rattle.arr_rewrite.specs.NormalForm.{normal_form}
-use Rattle.arr_run.specs.declared.choice.Choice.{Choice}
 use Rattle.arr_run.specs.declared.choice.Fuse.{Fuse}
 use Rattle.arr_run.specs.declared.choice.Fuse.TheVariants.{Linear, Greedy, Best}
 use Rattle.arr_run.specs.declared.planning.Planned.{Planned}
-use Rattle.arr_run.specs.Chosen.{IsChosen, IsPlanned}
+use Rattle.arr_run.specs.Chosen.{IsChosen}
 use Rattle.arr_run.specs.Laws.{MovesLittle, MovesWithin}
 
 -- ---- views that are some of others

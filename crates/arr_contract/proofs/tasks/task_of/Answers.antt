@@ -1,4 +1,4 @@
-use Rattle.std.proofs.Common.{◌≡◌, ◌+◌, ◌≤◌, ◌∙◌, ℕ, Option, Some, None, length, subst, sym, true, false, arith}
+use Rattle.std.proofs.Common.{◌≡◌, ◌≤◌, ◌∙◌, Some, None, length, subst, sym, true, false, arith}
 use Rattle.arr_num.specs.Kinds.{Ending, Printing, is_element_wise, kind}
 use Rattle.arr_num.specs.declared.code.Code.TheVariants.{Range}
 use Rattle.arr_ops.specs.Formed.{well_formed}
