@@ -24,7 +24,10 @@ def main(crates):
         clone = os.path.join(room, "clone")
         subprocess.run(["git", "clone", "-q", TOP, clone], check=True)
         for crate in crates:
-            shutil.copytree(os.path.join(BODIES, crate), os.path.join(clone, "crates", crate, "must-fail"))
+            place = os.path.join(clone, "crates", crate, "must-fail")
+            # (the gate tries those that stand there)
+            shutil.rmtree(place, ignore_errors=True)
+            shutil.copytree(os.path.join(BODIES, crate), place)
         tried = subprocess.run(["rt", "must-fail", *crates], cwd=clone, stdin=subprocess.DEVNULL, stdout=subprocess.PIPE, text=True)
     print(tried.stdout, end="")
     edits = sum(len(os.listdir(os.path.join(BODIES, crate))) for crate in crates)
