@@ -1,14 +1,16 @@
 #!/usr/bin/env python3
 """Runs the built program on random and on damaged scripts and proofs, and compares it with tools/evaluate.py and tools/check_proof.py.
 
-usage: fuzz.py [--seed=N] [--count=N] [--seconds=N] [--jobs=N] [PROGRAM]
+usage: fuzz.py [--seed=N] [--count=N] [--seconds=N] [--jobs=N] [--only=scripts|plans|proofs] [PROGRAM]
 
 Each seed, from N on, is one script. It is run plainly and damaged; with `--plan` by each planner, where the arrays must be the same, and each
 listed plan legal for the list rewritten, its costs right, and just what the planner gives (by greedy for short lists); and it is checked against
-proofs by random derivations, whole and damaged. Where the program knows `--cert`, its certificates are checked too. A run is repeated by its
-seed and `--count=1`. A difference is shown with a script made shorter line by line. The last line is `N passed, N failed`.
+proofs by random derivations, whole and damaged. Where the program knows `--cert`, its certificates are checked too. `--only` leaves out the
+other two of these three. A run is repeated by its seed and `--count=1`. A difference is shown with a script made shorter line by line. The last
+lines count the seeds, the cases of each kind, and `N passed, N failed`.
 """
 import argparse
+import collections
 import functools
 import itertools
 import multiprocessing
@@ -42,15 +44,18 @@ class Program:
 
     def run(self, script, words, proof=None):
         """The status and the text; `FILE` among the words stands for a file of the proof."""
+        if proof is None:
+            return self.ended(script, words)
         with tempfile.NamedTemporaryFile() as file:
-            if proof is not None:
-                file.write(proof)
-                file.flush()
-            words = [file.name if word == "FILE" else word for word in words]
-            try:
-                done = subprocess.run([self.path, *words], input=script, capture_output=True, timeout=120)
-            except subprocess.TimeoutExpired:
-                return "no end", ""
+            file.write(proof)
+            file.flush()
+            return self.ended(script, [file.name if word == "FILE" else word for word in words])
+
+    def ended(self, script, words):
+        try:
+            done = subprocess.run([self.path, *words], input=script, capture_output=True, timeout=120)
+        except subprocess.TimeoutExpired:
+            return "no end", ""
         return done.returncode, done.stdout.decode("latin-1")
 
 
@@ -197,29 +202,45 @@ def shortened(script, differs):
     return b"\n".join(lines)
 
 
-def judge_seed(path, seed):
-    """How many cases of this seed pass, and the texts of those that fail."""
+def script_cases(script, chance):
+    """The script, damaged, and misused."""
+    damaged = [("damaged script", random_scripts.damaged(script.decode(), chance))]
+    misused = [("misused script", random_scripts.misused(script.decode(), chance)) for _ in range(3)]
+    return [(kind, case, run_fault) for kind, case in [("script", script), *damaged, *misused]]
+
+
+def plan_cases(program, script):
+    """The script with the plans of each planner."""
+    planners = [(["--plan", "--fuse=linear"], "linear"), (["--plan", "--fuse=greedy"], "greedy")]
+    planners += [(["--cert", "--fuse=best", f"--budget={BUDGET}"], "best")] * program.certifies
+    return [(f"plans of {planner}", script, functools.partial(plan_fault, words=words, planner=planner)) for words, planner in planners]
+
+
+def proof_cases(script, chance):
+    """The script with a proof of it, and with four damaged ones."""
+    steps = evaluated(script)[2]
+    if not steps or len(script) >= 3000:
+        return []
+    proofs = [random_proofs.certificate(Problem(rewritten(ops)), number, chance) for number, ops in enumerate(lists_of(steps), 1)]
+    lines = [line for proof in proofs for line in proof]
+    texts = [("proof", "".join(line + "\n" for line in lines))] + [("damaged proof", random_proofs.damaged(lines, chance)) for _ in range(4)]
+    return [(kind, script, functools.partial(check_fault, proof=text.encode("latin-1"))) for kind, text in texts]
+
+
+def judge_seed(path, only, seed):
+    """The kinds of the cases of this seed that pass, and the texts of those that fail."""
     program, chance = Program(path), random.Random(seed)
     script = random_scripts.Writer(seed).script(chance.choice((2, 4, 7, 12, 12, 20, 60) if seed % 50 else (150, 300))).encode()
-    cases = [("run", script, run_fault), ("a damaged script", random_scripts.damaged(script.decode(), chance), run_fault)]
-    cases += [("a misused script", random_scripts.misused(script.decode(), chance), run_fault) for _ in range(3)]
-    cases += [(" ".join(words), script, lambda p, s, words=words, planner=planner: plan_fault(p, s, words, planner))
-              for words, planner in [(["--plan", "--fuse=linear"], "linear"), (["--plan", "--fuse=greedy"], "greedy")]]
-    if program.certifies:
-        words = ["--cert", "--fuse=best", f"--budget={BUDGET}"]
-        cases.append((" ".join(words), script, lambda p, s: plan_fault(p, s, words, "best")))
-    steps = evaluated(script)[2]
-    if steps and len(script) < 3000:
-        proofs = [random_proofs.certificate(Problem(rewritten(ops)), number, chance) for number, ops in enumerate(lists_of(steps), 1)]
-        lines = [line for proof in proofs for line in proof]
-        texts = ["".join(line + "\n" for line in lines)] + [random_proofs.damaged(lines, chance) for _ in range(4)]
-        cases += [("check", script, lambda p, s, proof=text.encode("latin-1"): check_fault(p, s, proof)) for text in texts]
-    failures = []
-    for name, case, fault in cases:
-        if fault(program, case):
+    parts = {"scripts": lambda: script_cases(script, chance), "plans": lambda: plan_cases(program, script), "proofs": lambda: proof_cases(script, chance)}
+    cases = [case for part, made in parts.items() if only in (None, part) for case in made()]
+    passed, failures = [], []
+    for kind, case, fault in cases:
+        if not fault(program, case):
+            passed.append(kind)
+        else:
             short = shortened(case, lambda fewer: fault(program, fewer))
-            failures.append(f"seed {seed}, {name}: differs\n--- script\n{short.decode('latin-1')}\n--- {fault(program, short)}\n---")
-    return len(cases) - len(failures), failures
+            failures.append(f"seed {seed}, {kind}: differs\n--- script\n{short.decode('latin-1')}\n--- {fault(program, short)}\n---")
+    return passed, failures
 
 
 def main():
@@ -229,19 +250,22 @@ def main():
     parser.add_argument("--count", type=int, default=sys.maxsize)
     parser.add_argument("--seconds", type=int, default=60)
     parser.add_argument("--jobs", type=int, default=1)
+    parser.add_argument("--only", choices=("scripts", "plans", "proofs"))
     words = parser.parse_args()
-    end, passed, failed, done = time.time() + words.seconds, 0, 0, 0
+    end, passed, failed, done = time.time() + words.seconds, collections.Counter(), 0, 0
     print(f"seeds from {words.seed} on", flush=True)
     each = multiprocessing.Pool(words.jobs).starmap if words.jobs > 1 else itertools.starmap
     while done < words.count and time.time() < end:
         some = min(words.count - done, 4 * words.jobs if words.jobs > 1 else 1)
         seeds = range(words.seed + done, words.seed + done + some)
-        for good, failures in each(judge_seed, [(words.program, seed) for seed in seeds]):
-            passed, failed = passed + good, failed + len(failures)
+        for kinds, failures in each(judge_seed, [(words.program, words.only, seed) for seed in seeds]):
+            passed.update(kinds)
+            failed += len(failures)
             for failure in failures:
                 print(failure, flush=True)
         done += some
-    print(f"{done} seeds\n{passed} passed, {failed} failed")
+    print(f"{done} seeds: " + ", ".join(f"{kind} {count}" for kind, count in passed.items()))
+    print(f"{passed.total()} passed, {failed} failed")
     return 1 if failed or not passed else 0
 
 
