@@ -1,26 +1,21 @@
-use Rattle.std.proofs.Common.{◌≡◌, ◌∙◌, List, get_or, ap₂}
+use Rattle.std.proofs.Common.{◌≡◌, ◌∙◌, ap₂}
 use Rattle.arr_ops.specs.Plans.{numbered}
-use Rattle.arr_ops.specs.declared.op.Op.{Op}
 use Rattle.arr_heur.specs.Planners.{union}
-use Rattle.arr_greedy.specs.declared.merging.Block.{Block}
 use Rattle.arr_greedy.proofs.KeyedBlocks.{union_is}
-use Rattle.arr_greedy.proofs.Printed.{row_is, union_print}
-use Rattle.arr_greedy.proofs.merging.joined.Goals as goal
+use Rattle.arr_greedy.proofs.Printed.{union_print}
+use Rattle.arr_greedy.proofs.merging.Block.union.Goals as goal
 
 pub returns-clause-numbers : goal.returns-clause-numbers
 returns-clause-numbers c =
     c.in_ok-numbers.ensures
-    ∙ union_is c.args.costs.now c.row_at.result.now c.row_at-2.result.now c.len.result c.len.ensures.value
-    ∙ ap₂ (union (numbered c.args.costs.now)) c.row_at.ensures c.row_at-2.ensures
+    ∙ union_is c.args.costs.now c.as_slice.result.now c.as_slice-2.result.now c.len.result c.len.ensures.value
+    ∙ ap₂ (union (numbered c.args.costs.now)) c.as_slice.ensures.value c.as_slice-2.ensures.value
 
 pub returns-clause-print : goal.returns-clause-print
 returns-clause-print c =
-    let list : List Op = c.args.costs.now in
-    let left : Block = get_or c.args.blocks.now c.args.left c.index-blocks-left.result in
-    let right : Block = get_or c.args.blocks.now c.args.right c.index-blocks-right.result in
-    let union_of : c.in_ok-numbers.numbers.items ≡ union (numbered list) left.numbers.items right.numbers.items =
+    let both : c.in_ok-numbers.numbers.items ≡ union (numbered c.args.costs.now) c.args.self.now.numbers.items c.args.other.now.numbers.items =
     c.in_ok-numbers.ensures
-    ∙ union_is list c.row_at.result.now c.row_at-2.result.now c.len.result c.len.ensures.value
-    ∙ ap₂ (union (numbered list)) (c.row_at.ensures ∙ row_is c.args.blocks.now c.args.left c.index-blocks-left.result c.requires.left_in) (c.row_at-2.ensures ∙ row_is c.args.blocks.now c.args.right c.index-blocks-right.result c.requires.right_in) in
-    union_print list left.numbers.items right.numbers.items c.in_ok-numbers.numbers.items c.in_ok-print.print union_of
-    (c.in_ok-print.ensures list left.numbers.items right.numbers.items (c.requires.printed c.args.left c.index-blocks-left.result c.requires.left_in) (c.requires.printed c.args.right c.index-blocks-right.result c.requires.right_in))
+    ∙ union_is c.args.costs.now c.as_slice.result.now c.as_slice-2.result.now c.len.result c.len.ensures.value
+    ∙ ap₂ (union (numbered c.args.costs.now)) c.as_slice.ensures.value c.as_slice-2.ensures.value in
+    union_print c.args.costs.now c.args.self.now.numbers.items c.args.other.now.numbers.items c.in_ok-numbers.numbers.items c.in_ok-print.print both
+    (c.in_ok-print.ensures c.args.costs.now c.args.self.now.numbers.items c.args.other.now.numbers.items c.requires.first c.requires.second)
