@@ -13,7 +13,7 @@ use Rattle.arr_greedy.proofs.GreedyBlocks.{begun_at, begun_keyed, begun_live, be
 use Rattle.arr_greedy.proofs.KeyedBlocks.{numbers_are}
 use Rattle.arr_greedy.proofs.Opening.{keys_start, told_start}
 use Rattle.arr_greedy.proofs.Printed.{numbers_in}
-use Rattle.arr_greedy.proofs.plan.merged.Goals as goal
+use Rattle.arr_greedy.proofs.plan.greedy_blocks.Goals as goal
 
 pub fill_rows-requires-clause-forward : goal.fill_rows-requires-clause-forward
 fill_rows-requires-clause-forward c x y lx ly l =

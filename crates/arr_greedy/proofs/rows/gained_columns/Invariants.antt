@@ -4,7 +4,7 @@ use Rattle.std.specs.List.{All}
 use Rattle.arr_view.specs.Views.{has}
 use Rattle.arr_greedy.specs.Fast.{flag}
 use Rattle.arr_greedy.specs.Ways.{gains}
-use Rattle.arr_greedy.proofs.rows.gained.Given as goal
+use Rattle.arr_greedy.proofs.rows.gained_columns.Given as goal
 
 abbrev pub invariant-loop-column : goal.invariant-loop-column
 invariant-loop-column l = record {
