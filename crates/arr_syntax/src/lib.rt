@@ -18,7 +18,6 @@
 #![tactic(auto)]
 
 mod fields;
-mod lists;
 mod node;
 mod parser;
 mod parts;
@@ -31,7 +30,6 @@ mod text;
 mod token;
 mod tree;
 
-pub use lists::{Name, Slices};
 pub use parser::parse;
 pub use refusal::{Kind, ParseFault, Place, Refusal};
 pub use text::place_behind;
