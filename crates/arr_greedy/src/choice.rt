@@ -118,8 +118,8 @@ fn better_pair(
     ensures best { result ≡ better_pair fuses.now reaches.now saved.now width keys.now found left right }
     ensures below { IsTrue (found_below width result) }
 {
-    if at(fuses, width, left, right)
-        && saves_more(saved, width, found, left, right)
+    if saves_more(saved, width, found, left, right)
+        && at(fuses, width, left, right)
         && !some_lies_from(keys, from, reaches, width, left, right)
     {
         Some((left, right))
