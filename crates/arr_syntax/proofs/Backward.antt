@@ -14,13 +14,10 @@ use Rattle.arr_syntax.specs.declared.state.Mode.{Mode}
 use Rattle.arr_syntax.specs.declared.state.Mode.TheVariants as mode
 use Rattle.arr_syntax.specs.declared.state.Rule.{Rule}
 use Rattle.arr_syntax.specs.declared.state.Rule.TheVariants as rule
-use Rattle.arr_syntax.specs.declared.state.Head.{Head}
 use Rattle.arr_syntax.specs.declared.state.Head.TheVariants as head
 use Rattle.arr_syntax.specs.declared.state.Node.{Node}
 use Rattle.arr_syntax.specs.declared.state.Node.TheVariants as node
 use Rattle.arr_syntax.specs.declared.state.Fields.{Fields}
-use Rattle.arr_syntax.specs.declared.state.Field.{Field}
-use Rattle.arr_syntax.specs.declared.state.Field.TheVariants as field
 use Rattle.arr_syntax.specs.declared.state.Part.{Part}
 use Rattle.arr_syntax.specs.declared.state.Part.TheVariants as part
 use Rattle.arr_syntax.specs.declared.state.Frame.{Frame}
@@ -29,7 +26,6 @@ use Rattle.arr_syntax.specs.declared.state.State.TheVariants as state
 use Rattle.arr_syntax.specs.declared.state.Filled.{Filled}
 use Rattle.arr_syntax.specs.declared.state.Filled.TheVariants as filled
 use Rattle.arr_syntax.specs.declared.tree.Code16.{Code16}
-use Rattle.arr_syntax.specs.declared.tree.Code16.TheVariants as code
 use Rattle.arr_syntax.specs.declared.tree.Type4.{Type4}
 use Rattle.arr_syntax.specs.declared.tree.Word.{Word}
 use Rattle.arr_syntax.specs.declared.tree.Expr.{Expr}
@@ -38,7 +34,7 @@ use Rattle.arr_syntax.specs.Grammar as grammar
 use Rattle.arr_syntax.specs.Grammar.{IsSign, IsKeyword, Rest, Level, Primary, Placed, ViewCall, Argument, Ends, Script, OneStatement, operator, comparison, index_at, name_of, word_at, unary_at, binary_at}
 use Rattle.arr_syntax.specs.Machine as machine
 use Rattle.arr_syntax.specs.Machine.{level, rank, either, behind, goes, give, leaves, fits, step, again, wanted, fresh, with_tree, fill, row_of, level_of, wanted_in, tree_of, stated, onward, opened, opens, frame, target, bound}
-use Rattle.arr_syntax.proofs.Completes.{IsEmpty, NextField, Then, Climb, there, up, BoundIn, After, Given, RowIn, Tree, Wants, Completes, Next, Low, Sits, Formed, Takes, WellFormed}
+use Rattle.arr_syntax.proofs.Completes.{IsEmpty, NextField, Then, Climb, there, up, BoundIn, After, Given, RowIn, Tree, Wants, Completes, Next, Sits, Formed, Takes, WellFormed}
 use Rattle.arr_syntax.proofs.Filling.{item, fill_back}
 use Rattle.arr_syntax.proofs.Forward.{climb_most, operator_within, again_same, takes_in}
 

@@ -1,5 +1,5 @@
 -- What the tokens must be from a state on, by the grammar.
-use Rattle.std.proofs.Common.{◌≡◌, ℕ, suc, ℤ, pos, neg_ℤ, ◌<◌, ◌≤◌, Bool, true, List, [], ◌∷◌, ◌++◌, Option, Some, ◌⊎◌}
+use Rattle.std.proofs.Common.{◌≡◌, ℕ, suc, ℤ, pos, neg_ℤ, ◌≤◌, Bool, true, List, [], ◌∷◌, ◌++◌, Option, Some, ◌⊎◌}
 use Rattle.arr_syntax.specs.declared.refusal.Place.{Place}
 use Rattle.arr_syntax.specs.declared.token.Item.{Item}
 use Rattle.arr_syntax.specs.declared.token.Sign.TheVariants as sign

@@ -1,5 +1,5 @@
 -- What one token makes of what is wanted, from the grammar to the machine.
-use Rattle.std.proofs.Common.{◌≡◌, ℕ, suc, ◌<◌, ◌≤◌, List, [], ◌∷◌, Option, Some, None, refl, sym, ap, subst, arith, Bool, true, false, cond, ◌&&◌, eqb, nat_le, nat_lt, ◌⊎◌, inl, inr}
+use Rattle.std.proofs.Common.{◌≡◌, ℕ, suc, ◌<◌, ◌≤◌, List, [], ◌∷◌, Option, Some, refl, sym, ap, subst, arith, Bool, true, false, cond, ◌&&◌, eqb, nat_le, nat_lt, ◌⊎◌, inl, inr}
 use Rattle.std.proofs.lemmas.Bool.Decides.{nat_tests}
 use Rattle.arr_syntax.specs.declared.refusal.Place.{Place}
 use Rattle.arr_syntax.specs.declared.token.Item.{Item}
@@ -12,14 +12,10 @@ use Rattle.arr_syntax.specs.declared.token.View.{View}
 use Rattle.arr_syntax.specs.declared.token.View.TheVariants.{Broadcast, Transpose, Reshape, Strided}
 use Rattle.arr_syntax.specs.declared.state.Mode.{Mode}
 use Rattle.arr_syntax.specs.declared.state.Mode.TheVariants as mode
-use Rattle.arr_syntax.specs.declared.state.Rule.{Rule}
 use Rattle.arr_syntax.specs.declared.state.Rule.TheVariants as rule
-use Rattle.arr_syntax.specs.declared.state.Head.{Head}
-use Rattle.arr_syntax.specs.declared.state.Head.TheVariants as head
 use Rattle.arr_syntax.specs.declared.state.Node.{Node}
 use Rattle.arr_syntax.specs.declared.state.Node.TheVariants as node
 use Rattle.arr_syntax.specs.declared.state.Fields.{Fields}
-use Rattle.arr_syntax.specs.declared.state.Field.{Field}
 use Rattle.arr_syntax.specs.declared.state.Field.TheVariants as field
 use Rattle.arr_syntax.specs.declared.state.Part.{Part}
 use Rattle.arr_syntax.specs.declared.state.Part.TheVariants as part

@@ -28,7 +28,7 @@ use Rattle.arr_syntax.specs.Grammar as grammar
 use Rattle.arr_syntax.specs.Grammar.{Listed, Length, Stride, Slice, Ends, Level, Placed, Primary, ViewCall, Rest, Script, OneStatement}
 use Rattle.arr_syntax.specs.Machine.{step, with_tree, wanted, level_of}
 use Rattle.arr_syntax.specs.Refused.{Fits, rank, IsRefused, IsScript, IfRefused}
-use Rattle.arr_syntax.proofs.Completes.{FieldIn, Fills, Climb, there, up, Tree, After, Given, RowIn, Completes, Next, WellFormed, WellMoved}
+use Rattle.arr_syntax.proofs.Completes.{FieldIn, Climb, there, up, Tree, After, Given, RowIn, Completes, Next, WellFormed, WellMoved}
 use Rattle.arr_syntax.proofs.Forward.{forward}
 use Rattle.arr_syntax.proofs.Completable.{step_formed}
 

@@ -6,7 +6,6 @@ use Rattle.arr_syntax.specs.declared.token.Token.{Token}
 use Rattle.arr_syntax.specs.declared.token.Token.TheVariants as token
 use Rattle.arr_syntax.specs.declared.token.Sign.{Sign}
 use Rattle.arr_syntax.specs.declared.token.Sign.TheVariants as sign
-use Rattle.arr_syntax.specs.declared.token.Keyword.{Keyword}
 use Rattle.arr_syntax.specs.declared.token.Keyword.TheVariants as keyword
 use Rattle.arr_syntax.specs.declared.token.View.{View}
 use Rattle.arr_syntax.specs.declared.token.View.TheVariants.{Broadcast, Transpose, Reshape, Strided}
@@ -304,22 +303,17 @@ ends _ s = move.Stuck
 
 -- the beginning of a tree
 
-abbrev pub call_rule : Keyword → Option Rule
-call_rule keyword.Range = Some rule.Range
-call_rule keyword.Full = Some rule.Full
-call_rule (keyword.Fold c) = Some (rule.Fold c)
-call_rule keyword.Absolute = Some rule.Absolute
-call_rule (keyword.Pair c) = Some (rule.Pair c)
-call_rule (keyword.Type to) = Some (rule.Cast to)
-call_rule (keyword.View v) = Some (rule.View mode.Value v)
-call_rule _ = None
-
 abbrev pub rule_at : Mode → Token → Option Rule
 rule_at mode.Value (token.Sign sign.Minus) = Some rule.Negative
 rule_at mode.Value (token.Sign sign.Open) = Some rule.Bracket
 rule_at mode.Value (token.Sign sign.Not) = Some rule.Invert
-rule_at mode.Value (token.Keyword k) = call_rule k
-rule_at mode.Place (token.Keyword (keyword.View v)) = Some (rule.View mode.Place v)
+rule_at mode.Value (token.Keyword keyword.Range) = Some rule.Range
+rule_at mode.Value (token.Keyword keyword.Full) = Some rule.Full
+rule_at mode.Value (token.Keyword (keyword.Fold c)) = Some (rule.Fold c)
+rule_at mode.Value (token.Keyword keyword.Absolute) = Some rule.Absolute
+rule_at mode.Value (token.Keyword (keyword.Pair c)) = Some (rule.Pair c)
+rule_at mode.Value (token.Keyword (keyword.Type to)) = Some (rule.Cast to)
+rule_at m (token.Keyword (keyword.View v)) = Some (rule.View m v)
 rule_at _ _ = None
 
 abbrev pub begins : Mode → Token → Place → List Frame → Move

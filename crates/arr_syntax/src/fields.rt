@@ -1,6 +1,6 @@
 ghost use Rattle.std.specs.Prelude.{◌≡◌, IfOk, None};
 ghost use Rattle.arr_syntax.specs.Grammar.{cut};
-ghost use Rattle.arr_syntax.specs.Machine.{fresh, and_tree, with_tree, turns, whole, fill_behind, fill_number, fill_sign, fill_kept, fill};
+ghost use Rattle.arr_syntax.specs.Machine.{fresh, and_tree, with_tree, turns, whole, fill_behind, fill_number, fill_sign, fill};
 
 use crate::node::literal;
 use crate::refusal::Place;
@@ -119,27 +119,6 @@ impl Fields {
         }
     }
 
-    /// A field whose token is kept, or is its last one.
-    fn kept(
-        mut self,
-        alloc: Global,
-        field: Field,
-        token: Token,
-        at: Place,
-    ) -> Result<Filled, AllocError>
-        ensures { IfOk result (λ x. x ≡ fill_kept field token at self) }
-    {
-        match (field, token) {
-            (field, Token::Number(n)) => self.number(alloc, field, n, at),
-            (field, Token::Sign(sign)) => Ok(self.sign(field, sign, at)),
-            (Field::LastType, Token::Keyword(Keyword::Type(to))) => {
-                self.to = to;
-                Ok(Filled::Turns(Field::Close, self))
-            }
-            _ => Ok(Filled::Stuck),
-        }
-    }
-
     /// Behind a slice.
     fn behind(self, token: Token) -> Filled
         ensures { result ≡ fill_behind token self }
@@ -168,7 +147,15 @@ impl Fields {
             self.cuts.push(cut)?;
             return Ok(self.behind(token));
         }
-        self.kept(alloc, field, token, at)
+        match (field, token) {
+            (field, Token::Number(n)) => self.number(alloc, field, n, at),
+            (field, Token::Sign(sign)) => Ok(self.sign(field, sign, at)),
+            (Field::LastType, Token::Keyword(Keyword::Type(to))) => {
+                self.to = to;
+                Ok(Filled::Turns(Field::Close, self))
+            }
+            _ => Ok(Filled::Stuck),
+        }
     }
 }
 

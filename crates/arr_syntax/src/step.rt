@@ -1,6 +1,6 @@
 ghost use Rattle.std.specs.Prelude.{◌≡◌, ◌∷◌, [], IfOk, ◌<◌, ◌≤◌};
 ghost use Rattle.arr_syntax.specs.Grammar.{name_of, word_at};
-ghost use Rattle.arr_syntax.specs.Machine.{behind, level, call_rule, rule_at, ends, row, resume, opened, opens, onward, fill, begins, take, goes, give, target, starts, named, binds, deletes, ended, step, fresh, with_tree};
+ghost use Rattle.arr_syntax.specs.Machine.{behind, level, rule_at, ends, row, resume, opened, opens, onward, fill, begins, take, goes, give, target, starts, named, binds, deletes, ended, step, fresh, with_tree};
 
 use crate::node::{EQUALS, VALUE, literal, statement, tree};
 use crate::parts::Parts;
@@ -55,22 +55,6 @@ fn level(token: &Token) -> u8
     }
 }
 
-/// The rule of a word in front of a bracket.
-fn call_rule(keyword: Keyword) -> Option<Rule>
-    ensures { result ≡ call_rule keyword }
-{
-    match keyword {
-        Keyword::Range => Some(Rule::Range),
-        Keyword::Full => Some(Rule::Full),
-        Keyword::Fold(code) => Some(Rule::Fold(code)),
-        Keyword::Absolute => Some(Rule::Absolute),
-        Keyword::Pair(code) => Some(Rule::Pair(code)),
-        Keyword::Type(to) => Some(Rule::Cast(to)),
-        Keyword::View(view) => Some(Rule::View(Mode::Value, view)),
-        _ => None,
-    }
-}
-
 /// The rule whose first token this is.
 fn rule_at(mode: Mode, token: &Token) -> Option<Rule>
     ensures { result ≡ rule_at mode token.now }
@@ -79,8 +63,13 @@ fn rule_at(mode: Mode, token: &Token) -> Option<Rule>
         (Mode::Value, Token::Sign(Sign::Minus)) => Some(Rule::Negative),
         (Mode::Value, Token::Sign(Sign::Open)) => Some(Rule::Bracket),
         (Mode::Value, Token::Sign(Sign::Not)) => Some(Rule::Invert),
-        (Mode::Value, Token::Keyword(keyword)) => call_rule(*keyword),
-        (Mode::Place, Token::Keyword(Keyword::View(view))) => Some(Rule::View(Mode::Place, *view)),
+        (Mode::Value, Token::Keyword(Keyword::Range)) => Some(Rule::Range),
+        (Mode::Value, Token::Keyword(Keyword::Full)) => Some(Rule::Full),
+        (Mode::Value, Token::Keyword(Keyword::Fold(code))) => Some(Rule::Fold(*code)),
+        (Mode::Value, Token::Keyword(Keyword::Absolute)) => Some(Rule::Absolute),
+        (Mode::Value, Token::Keyword(Keyword::Pair(code))) => Some(Rule::Pair(*code)),
+        (Mode::Value, Token::Keyword(Keyword::Type(to))) => Some(Rule::Cast(*to)),
+        (mode, Token::Keyword(Keyword::View(view))) => Some(Rule::View(mode, *view)),
         _ => None,
     }
 }

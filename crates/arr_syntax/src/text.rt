@@ -1,6 +1,6 @@
 ghost use Rattle.std.specs.Prelude.{◌≡◌, ◌∷◌, ℕ, ◌+◌, ◌-◌, ◌^◌, ◌<◌, ◌≤◌, length, Some, None, List, Option, IfOk, false};
 ghost use Rattle.arr_syntax.specs.Run.{is_end, behind};
-ghost use Rattle.arr_syntax.specs.Tokens.{digits, decimal, number_of, is_blank, is_letter, is_word_byte, word, named, reserved, word_of, sign_of_one, sign_with_equal, sign_doubled, sign_of_two, sign_piece, piece, comment, beyond, place_behind, items_from};
+ghost use Rattle.arr_syntax.specs.Tokens.{digits, decimal, number_of, is_blank, is_letter, is_word_byte, word, named, reserved, word_of, sign_of_one, sign_of_two, sign_piece, piece, comment, beyond, place_behind, items_from};
 
 use crate::refusal::Place;
 use crate::token::{Item, Keyword, Sign, Token, View};
@@ -144,29 +144,6 @@ fn sign_of_one(byte: u8) -> Option<Sign>
     }
 }
 
-fn sign_with_equal(byte: u8) -> Option<Sign>
-    ensures { result ≡ sign_with_equal byte }
-{
-    match byte {
-        b'=' => Some(Sign::Equal),
-        b'!' => Some(Sign::NotEqual),
-        b'<' => Some(Sign::LessEqual),
-        b'>' => Some(Sign::GreaterEqual),
-        _ => None,
-    }
-}
-
-fn sign_doubled(byte: u8) -> Option<Sign>
-    ensures { result ≡ sign_doubled byte }
-{
-    match byte {
-        b'<' => Some(Sign::LeftShift),
-        b'>' => Some(Sign::RightShift),
-        b'*' => Some(Sign::Power),
-        _ => None,
-    }
-}
-
 /// The sign of two bytes, of which this is the first one.
 fn sign_of_two(first: u8, behind: &[u8]) -> Option<Sign>
     ensures { result ≡ sign_of_two first behind.now }
@@ -174,13 +151,15 @@ fn sign_of_two(first: u8, behind: &[u8]) -> Option<Sign>
     if behind.is_empty() {
         return None;
     }
-    let second = behind[0];
-    if second == b'=' {
-        sign_with_equal(first)
-    } else if second == first {
-        sign_doubled(first)
-    } else {
-        None
+    match (first, behind[0]) {
+        (b'=', b'=') => Some(Sign::Equal),
+        (b'!', b'=') => Some(Sign::NotEqual),
+        (b'<', b'=') => Some(Sign::LessEqual),
+        (b'>', b'=') => Some(Sign::GreaterEqual),
+        (b'<', b'<') => Some(Sign::LeftShift),
+        (b'>', b'>') => Some(Sign::RightShift),
+        (b'*', b'*') => Some(Sign::Power),
+        _ => None,
     }
 }
 
