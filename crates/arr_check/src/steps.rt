@@ -102,7 +102,7 @@ fn may_join(tables: &Tables, known: &Known, version: u8, f: u32, g: u32) -> bool
 }
 
 /// What rule 9 gives, where it applies.
-fn joined(tables: &Tables, known: &Known, version: u8, f: u32, g: u32) -> Option<Fact>
+fn given_by_free_rule(tables: &Tables, known: &Known, version: u8, f: u32, g: u32) -> Option<Fact>
     requires { IsFine (problem_of tables.now) known.now }
     ensures { result ≡ given_in tables.now known.now (free_rule_in (problem_of tables.now) version f g) }
 {
@@ -164,7 +164,7 @@ pub(crate) fn step(
             &[Before(f, g), Before(g, h), Apart(g, h)],
             Apart(f, h),
         ),
-        9 => joined(tables, known, version, f, g),
+        9 => given_by_free_rule(tables, known, version, f, g),
         _ => None,
     }
 }

@@ -1,7 +1,7 @@
 use Rattle.std.proofs.Common.{◌≡◌, ◌++◌, ◌+◌, length}
 use Rattle.arr_view.specs.Views.{elements}
 use Rattle.arr_check.specs.Classed.{Marks}
-use Rattle.arr_check.proofs.alike.marked.Given as goal
+use Rattle.arr_check.proofs.alike.marks_of.Given as goal
 
 abbrev pub invariant-loop-element : goal.invariant-loop-element
 invariant-loop-element l = record {
