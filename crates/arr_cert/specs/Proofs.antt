@@ -73,6 +73,10 @@ pub record IsPart (size : ℕ) (ends : Bool) (old new text more front : List ℕ
   pub some : 0 < length old → 0 < size
   pub kept : more ≡ take 65537 (text ++ front)
 
+-- so of what a reader has
+abbrev pub TakesPart : Reader → Reader → ℕ → Bool → Type 0
+TakesPart old new size ends = (front : List ℕ) × IsPart size ends (waiting old.pieces) (waiting new.pieces) old.text.items new.text.items front
+
 -- what a call that takes bytes leaves as it is
 pub record IsSame (old new : Reader) : Type 0 where
   pub room : new.room ≡ old.room
@@ -99,6 +103,10 @@ Finds found.Nothing old new text = Consumes old.bytes new.bytes [] × IsAtEnd ol
 Finds found.Beyond old new text = (front : List ℕ) × (ends : Bool) × IsBeyond old new front ends
 Finds found.Line old new text = (front : List ℕ) × (ends : Bool) × IsLine old new text front ends
 
+-- so by what a reader and its source had before and have after
+abbrev pub FindsLine : {S : Type 0} → Ghosts S → Reader → Reader → S → S → Found → Type 0
+FindsLine g old new before after found = Finds found (unread g old before) (unread g new after) new.text.items
+
 -- what a marked line is
 abbrev pub IsSpelled : Item → List ℕ → Type 0
 IsSpelled (item.Record r) text = Spells text r
@@ -109,3 +117,7 @@ IsSpelled _ text = ⊥
 abbrev pub Turns : Option Item → ℕ → Unread → Unread → Type 0
 Turns None line old new = Told old new (λ a b. a ≡ b) × (new.room < old.room)
 Turns (Some item) line old new = Told old new (IsFirst item line)
+
+-- so by what a reader and its source had before and have after
+abbrev pub TurnsTo : {S : Type 0} → Ghosts S → Reader → Reader → S → S → Option Item → Type 0
+TurnsTo g old new before after item = Turns item (last_line new) (unread g old before) (unread g new after)

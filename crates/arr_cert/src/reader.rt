@@ -1,5 +1,5 @@
 //! A reader of proofs: one line after another.
-ghost use Rattle.std.specs.Prelude.{◌≡◌, ◌≤◌, ◌<◌, ◌+◌, ◌-◌, ◌++◌, ◌||◌, ℕ, List, Ok, Some, suc, true, false, length, take, vec_len, IfOk, IfSome, IsErrOf, OnOk};
+ghost use Rattle.std.specs.Prelude.{◌≡◌, ◌≤◌, ◌<◌, ◌+◌, ◌-◌, ◌++◌, ◌||◌, Ok, Some, suc, true, false, length, take, vec_len, IfOk, IfSome, IsErrOf, OnOk};
 ghost use Rattle.std.specs.List.{before_first};
 ghost use Rattle.std.specs.Io.KnownBytes.{IsAtEnd};
 ghost use Rattle.arr_io.specs.Causes.{Rose};
@@ -71,8 +71,7 @@ fn is_record(text: &[u8]) -> bool
 
 impl Reader {
     ghost use Rattle.arr_cert.specs.Reading.{IsBehind};
-    ghost use Rattle.arr_cert.specs.Unread.{waiting};
-    ghost use Rattle.arr_cert.specs.Proofs.{Finds, Gives, HasMetEnd, IsFresh, IsPart, IsSame, IsSpelled, Turns, ahead, is_over, last_line, next_line, stops, unread};
+    ghost use Rattle.arr_cert.specs.Proofs.{FindsLine, Gives, HasMetEnd, IsFresh, IsSame, IsSpelled, TakesPart, TurnsTo, ahead, is_over, last_line, next_line, stops, unread};
 
     /// A reader at the beginning of a proof. Want of memory is its one refusal.
     pub fn new(alloc: Global) -> Result<Reader, NoMemory>
@@ -98,7 +97,7 @@ impl Reader {
     /// Takes of the bytes that wait those of the line: how many, and whether the line feed is among them.
     fn take_part(&mut self) -> Result<(usize, bool), NoMemory>
         requires { vec_len self.old.text ≤ 65537 }
-        ensures part { IfOk result (λ p. (front : List ℕ) × IsPart p.0 p.1 (waiting self.old.pieces) (waiting self.new.pieces) self.old.text.items self.new.text.items front) }
+        ensures part { IfOk result (λ part. TakesPart self.old self.new part.0 part.1) }
         ensures small { IfOk result (λ p. p.0 ≤ 65536) }
         ensures same { IsSame self.old self.new }
         ensures ended { self.new.pieces.ended ≡ self.old.pieces.ended }
@@ -133,7 +132,7 @@ impl Reader {
     /// Looks for the next line: its text, or as much of it as shows that it is too long.
     fn find_line<S: Source>(&mut self, source: &mut S) -> Result<Found, CheckFault>
         requires met { HasMetEnd S.Source self.old source.old }
-        ensures found { IfOk result (λ found. Finds found (unread S.Source self.old source.old) (unread S.Source self.new source.new) self.new.text.items) }
+        ensures found { IfOk result (λ found. FindsLine S.Source self.old self.new source.old source.new found) }
         ensures out { result ≡ Ok Found.Nothing → IsAtEnd (unread S.Source self.new source.new).bytes }
         ensures line { self.new.line ≡ self.old.line }
         ensures next { self.old.next_line ≤ self.new.next_line }
@@ -187,7 +186,7 @@ impl Reader {
     /// Takes the next line. It is the next item, unless it is passed over.
     fn turn<S: Source>(&mut self, alloc: Global, source: &mut S) -> Result<Option<Item>, CheckFault>
         requires met { HasMetEnd S.Source self.old source.old }
-        ensures item { IfOk result (λ item. Turns item (last_line self.new) (unread S.Source self.old source.old) (unread S.Source self.new source.new)) }
+        ensures item { IfOk result (λ item. TurnsTo S.Source self.old self.new source.old source.new item) }
         ensures out { result ≡ Ok (Some Item.End) → IsAtEnd (unread S.Source self.new source.new).bytes }
         ensures behind { IfOk result (λ found. IfSome found (λ item. IsBehind item self.new.line self.new.next_line)) }
         ensures line { self.new.line ≡ self.old.next_line }

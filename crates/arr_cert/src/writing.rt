@@ -6,7 +6,7 @@ ghost use Rattle.arr_io.specs.Causes.{HasCause};
 ghost use Rattle.arr_io.specs.Taken.{AppendsPart};
 ghost use Rattle.arr_law.specs.declared.record.Record.{Record};
 ghost use Rattle.arr_cert.specs.Texts.{behind, certificate_text, first_text, group_text, is_spellable, line_text, spaced, takes_two};
-ghost use Rattle.arr_cert.specs.Wrote.{WroteMore};
+ghost use Rattle.arr_cert.specs.Wrote.{WritesOn};
 
 use arr_io::{Sink, WriteFault, write_all};
 use arr_law::{Certificate, Charge, Charges, OpList, Places, Record, Records};
@@ -17,7 +17,7 @@ type Going = Result<(), WriteFault>;
 
 /// Writes bytes.
 fn put<K: Sink>(sink: &mut K, so_far: Going, bytes: &[u8]) -> Going
-    ensures { WroteMore (K.written sink.old) (K.written sink.new) (K.faults sink.old) (K.faults sink.new) so_far result (bytes.now) }
+    ensures { WritesOn K.Sink sink.old sink.new so_far result bytes.now }
 {
     match so_far {
         Ok(()) => write_all(sink, bytes),
@@ -27,7 +27,7 @@ fn put<K: Sink>(sink: &mut K, so_far: Going, bytes: &[u8]) -> Going
 
 /// Writes a number in decimal behind a sign.
 fn put_number<K: Sink>(sink: &mut K, so_far: Going, sign: u8, number: u64) -> Going
-    ensures { WroteMore (K.written sink.old) (K.written sink.new) (K.faults sink.old) (K.faults sink.new) so_far result (sign ∷ decimal number) }
+    ensures { WritesOn K.Sink sink.old sink.new so_far result (sign ∷ decimal number) }
 {
     let mut buffer = Buffer::new();
     let signed = put(sink, so_far, &[sign]);
@@ -36,7 +36,7 @@ fn put_number<K: Sink>(sink: &mut K, so_far: Going, sign: u8, number: u64) -> Go
 
 /// Writes a word and numbers as a line.
 fn put_line<K: Sink>(sink: &mut K, so_far: Going, word: &[u8], numbers: &[u64]) -> Going
-    ensures { WroteMore (K.written sink.old) (K.written sink.new) (K.faults sink.old) (K.faults sink.new) so_far result ((word.now ++ spaced numbers.now) ++ 10 ∷ []) }
+    ensures { WritesOn K.Sink sink.old sink.new so_far result ((word.now ++ spaced numbers.now) ++ 10 ∷ []) }
 {
     let mut going = put(sink, so_far, word);
     for number in numbers {
@@ -47,7 +47,7 @@ fn put_line<K: Sink>(sink: &mut K, so_far: Going, word: &[u8], numbers: &[u64]) 
 
 /// Writes the places of a plan as a line.
 fn put_plan<K: Sink>(sink: &mut K, so_far: Going, places: &Places) -> Going
-    ensures { WroteMore (K.written sink.old) (K.written sink.new) (K.faults sink.old) (K.faults sink.new) so_far result (line_text (Record.Plan places.now)) }
+    ensures { WritesOn K.Sink sink.old sink.new so_far result (line_text (Record.Plan places.now)) }
 {
     let mut going = put(sink, so_far, b"!plan");
     for index in 0..places.len() {
@@ -58,7 +58,7 @@ fn put_plan<K: Sink>(sink: &mut K, so_far: Going, places: &Places) -> Going
 
 /// Writes the operations of a group behind the first, each behind a comma.
 fn put_others<K: Sink>(sink: &mut K, so_far: Going, ops: &OpList) -> Going
-    ensures { WroteMore (K.written sink.old) (K.written sink.new) (K.faults sink.old) (K.faults sink.new) so_far result (behind 44 (drop 1 ops.now)) }
+    ensures { WritesOn K.Sink sink.old sink.new so_far result (behind 44 (drop 1 ops.now)) }
 {
     let mut going = so_far;
     for index in 1..ops.len() {
@@ -69,7 +69,7 @@ fn put_others<K: Sink>(sink: &mut K, so_far: Going, ops: &OpList) -> Going
 
 /// Writes the first operation of a group behind a blank.
 fn put_first<K: Sink>(sink: &mut K, so_far: Going, ops: &OpList) -> Going
-    ensures { WroteMore (K.written sink.old) (K.written sink.new) (K.faults sink.old) (K.faults sink.new) so_far result (first_text ops.now) }
+    ensures { WritesOn K.Sink sink.old sink.new so_far result (first_text ops.now) }
 {
     if ops.len() == 0 {
         return put(sink, so_far, b" ");
@@ -79,7 +79,7 @@ fn put_first<K: Sink>(sink: &mut K, so_far: Going, ops: &OpList) -> Going
 
 /// Writes a group of a leaf.
 fn put_group<K: Sink>(sink: &mut K, so_far: Going, charge: &Charge) -> Going
-    ensures { WroteMore (K.written sink.old) (K.written sink.new) (K.faults sink.old) (K.faults sink.new) so_far result (group_text charge.now) }
+    ensures { WritesOn K.Sink sink.old sink.new so_far result (group_text charge.now) }
 {
     let first = put_first(sink, so_far, &charge.ops);
     let named = put_number(sink, first, b'.', u64::from(charge.operand));
@@ -88,7 +88,7 @@ fn put_group<K: Sink>(sink: &mut K, so_far: Going, charge: &Charge) -> Going
 
 /// Writes the groups of a leaf as a line.
 fn put_worth<K: Sink>(sink: &mut K, so_far: Going, charges: &Charges) -> Going
-    ensures { WroteMore (K.written sink.old) (K.written sink.new) (K.faults sink.old) (K.faults sink.new) so_far result (line_text (Record.Worth charges.now)) }
+    ensures { WritesOn K.Sink sink.old sink.new so_far result (line_text (Record.Worth charges.now)) }
 {
     let mut going = put(sink, so_far, b"!worth");
     for index in 0..charges.len() {
@@ -99,7 +99,7 @@ fn put_worth<K: Sink>(sink: &mut K, so_far: Going, charges: &Charges) -> Going
 
 /// Writes the head of a certificate.
 fn put_head<K: Sink>(sink: &mut K, so_far: Going, number: u32, count: u32, version: u8) -> Going
-    ensures { WroteMore (K.written sink.old) (K.written sink.new) (K.faults sink.old) (K.faults sink.new) so_far result (line_text (Record.Flush number count version)) }
+    ensures { WritesOn K.Sink sink.old sink.new so_far result (line_text (Record.Flush number count version)) }
 {
     let (number, count) = (u64::from(number), u64::from(count));
     if version == 1 {
@@ -122,7 +122,7 @@ pub(crate) fn takes_two(rule: u8) -> bool
 
 /// Writes a step.
 fn put_step<K: Sink>(sink: &mut K, so_far: Going, rule: u8, f: u32, g: u32, h: u32) -> Going
-    ensures { WroteMore (K.written sink.old) (K.written sink.new) (K.faults sink.old) (K.faults sink.new) so_far result (line_text (Record.Step rule f g h)) }
+    ensures { WritesOn K.Sink sink.old sink.new so_far result (line_text (Record.Step rule f g h)) }
 {
     let (number, first, second) = (u64::from(rule), u64::from(f), u64::from(g));
     let two = takes_two(rule);
@@ -139,7 +139,7 @@ fn put_step<K: Sink>(sink: &mut K, so_far: Going, rule: u8, f: u32, g: u32, h: u
 
 /// Writes a word and two operations as a line.
 fn put_pair<K: Sink>(sink: &mut K, so_far: Going, word: &[u8], f: u32, g: u32) -> Going
-    ensures { WroteMore (K.written sink.old) (K.written sink.new) (K.faults sink.old) (K.faults sink.new) so_far result ((word.now ++ spaced (f ∷ g ∷ [])) ++ 10 ∷ []) }
+    ensures { WritesOn K.Sink sink.old sink.new so_far result ((word.now ++ spaced (f ∷ g ∷ [])) ++ 10 ∷ []) }
 {
     let (first, second) = (u64::from(f), u64::from(g));
     put_line(sink, so_far, word, &[first, second])
@@ -147,7 +147,7 @@ fn put_pair<K: Sink>(sink: &mut K, so_far: Going, word: &[u8], f: u32, g: u32) -
 
 /// Writes a record of a tree as a line.
 fn put_record<K: Sink>(sink: &mut K, so_far: Going, entry: &Record) -> Going
-    ensures { WroteMore (K.written sink.old) (K.written sink.new) (K.faults sink.old) (K.faults sink.new) so_far result (line_text entry.now) }
+    ensures { WritesOn K.Sink sink.old sink.new so_far result (line_text entry.now) }
 {
     match entry {
         Record::Flush {
@@ -168,7 +168,7 @@ fn put_record<K: Sink>(sink: &mut K, so_far: Going, entry: &Record) -> Going
 
 /// Writes the records of a tree, a line for each.
 fn put_tree<K: Sink>(sink: &mut K, so_far: Going, tree: &Records) -> Going
-    ensures { WroteMore (K.written sink.old) (K.written sink.new) (K.faults sink.old) (K.faults sink.new) so_far result (flat_map line_text tree.now) }
+    ensures { WritesOn K.Sink sink.old sink.new so_far result (flat_map line_text tree.now) }
 {
     let mut going = so_far;
     for index in 0..tree.len() {

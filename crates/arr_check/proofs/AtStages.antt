@@ -8,7 +8,8 @@ use Rattle.arr_law.specs.Verdict.{State, AtHead, AtPlan, AtCost, AtBound, AtTree
 use Rattle.arr_check.specs.declared.stages.Stage.{Stage}
 use Rattle.arr_check.specs.declared.stages.Stage.TheVariants as stage
 use Rattle.arr_check.specs.declared.tree.Tree.{Tree}
-use Rattle.arr_check.specs.Stages.{IsAt, IsFresh, Turns}
+use Rattle.arr_check.specs.Steps.{IsFresh}
+use Rattle.arr_check.specs.Stages.{IsAt, Turns}
 
 module _ (P : Problem) (number : ℕ) (tree : Tree) (r : Record) (result : Result Stage Reject) where
   plan_at : (v : ℕ) (s : State) → (IsFresh P tree → Turns P number (AtPlan v) tree r result) → IsAt P (stage.Plan v) tree s → Turns P number s tree r result

@@ -61,6 +61,13 @@ abbrev pub cross : List Strided → Bool → Option ℕ → Option ℕ → Bool
 cross classes never (Some a) (Some b) = overlap (view_in classes a) (view_in classes b) && (never || not (a == b))
 cross classes never _ _ = false
 
+-- a class meets, or crosses, one of an operation
+abbrev pub meets_some : List Strided → Option ℕ → Classed → Bool
+meets_some classes out classed = (meet classes out classed.out || meet classes out classed.first) || meet classes out classed.second
+
+abbrev pub crosses_some : List Strided → Bool → Option ℕ → Classed → Bool
+crosses_some classes never out classed = (cross classes never out classed.out || cross classes never out classed.first) || cross classes never out classed.second
+
 abbrev pub first_view : List Strided → Option Strided
 first_view [] = None
 first_view (v ∷ vs) = Some v

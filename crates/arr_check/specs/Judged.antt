@@ -53,6 +53,10 @@ abbrev pub Judged : Problem → ℕ → Unread → Unread → Verdict → Type 0
 Judged problem number old new (verdict.Yes cost bound) = Passes problem number old new cost bound
 Judged problem number old new (verdict.No line kind) = Fails problem number old AtHead line kind
 
+-- so of a list, by what a reader and its source had before and have after
+abbrev pub Judges : {S : Type 0} → Ghosts S → List Op → ℕ → Reader → Reader → S → S → Verdict → Type 0
+Judges g list number old new before after verdict = Judged (problem_of list) number (unread g old before) (unread g new after) verdict
+
 abbrev pub is_yes : Verdict → Bool
 is_yes (verdict.Yes cost bound) = true
 is_yes _ = false

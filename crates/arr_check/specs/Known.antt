@@ -1,9 +1,11 @@
 -- The facts that are known: a list in the order in which they came, and a mark for each kind and each two operations.
 use Rattle.std.specs.Prelude.{◌≡◌, ℕ, ◌+◌, ◌-◌, ◌*◌, Bool, true, false, ◌&&◌, List, [], ◌∷◌, length, get_or, slice_set}
 use Rattle.std.specs.List.{fold}
+use Rattle.arr_ops.specs.declared.op.Op.{Op}
 use Rattle.arr_law.specs.declared.fact.Fact.{Fact}
 use Rattle.arr_law.specs.declared.fact.Fact.TheVariants.{Same, Apart, Before}
 use Rattle.arr_law.specs.Problem.{Problem, is_op}
+use Rattle.arr_law.specs.ProblemOf.{problem_of}
 use Rattle.arr_law.specs.Facts.{Facts, facts_of, with_fact}
 use Rattle.arr_check.specs.declared.known.Known.{Known}
 
@@ -52,3 +54,7 @@ IsFine problem known = AreFine problem known.trail.items known.marks.items
 -- what is known
 abbrev pub known_of : Problem → Known → Facts
 known_of problem known = facts_of problem known.trail.items
+
+-- what is known of the problem of a list
+abbrev pub knows : List Op → Known → Facts
+knows list known = known_of (problem_of list) known

@@ -1,17 +1,22 @@
 -- What a step gives, and what a record of a tree does.
-use Rattle.std.specs.Prelude.{◌≡◌, ℕ, ◌≤◌, Bool, true, false, cond, ◌&&◌, ◌==◌, List, [], ◌∷◌, ◌++◌, Option, Some, None, length, map, reverse, take}
+use Rattle.std.specs.Prelude.{◌≡◌, ℕ, ◌≤◌, Bool, true, false, cond, not, ◌&&◌, ◌||◌, ◌==◌, List, [], ◌∷◌, ◌++◌, Option, Some, None, length, map, reverse, take}
+use Rattle.std.specs.List.{list_all}
+use Rattle.arr_ops.specs.declared.op.Op.{Op}
 use Rattle.arr_law.specs.declared.fact.Fact.{Fact}
+use Rattle.arr_law.specs.declared.fact.Fact.TheVariants.{Before, Same}
 use Rattle.arr_law.specs.declared.record.Record.{Record}
 use Rattle.arr_law.specs.declared.reject.Reject.{Reject}
-use Rattle.arr_law.specs.Problem.{Problem, ends_base_of}
-use Rattle.arr_law.specs.Facts.{Facts, facts_of, with_fact}
-use Rattle.arr_law.specs.Rules.{Rule, applies, free_rule}
+use Rattle.arr_law.specs.Problem.{Problem, ends_base_of, is_op}
+use Rattle.arr_law.specs.ProblemOf.{problem_of}
+use Rattle.arr_law.specs.Facts.{Facts, facts_of, root_facts, with_fact}
+use Rattle.arr_law.specs.Rules.{Rule, applies, free_rule, other_users}
 use Rattle.arr_law.specs.Trees.{tree_fault, subtrees}
 use Rattle.arr_check.specs.declared.tree.Move.{Move}
 use Rattle.arr_check.specs.declared.tree.Move.TheVariants.{Wrong, Add, Split, Close}
 use Rattle.arr_check.specs.declared.tree.Tree.{Tree}
 use Rattle.arr_check.specs.declared.tree.Waiting.{Waiting}
-use Rattle.arr_check.specs.Known.{are_ops, IsFine}
+use Rattle.arr_check.specs.declared.known.Known.{Known}
+use Rattle.arr_check.specs.Known.{are_ops, knows, IsFine}
 
 -- what a rule gives, where it applies
 abbrev pub given : Problem → Facts → Option Rule → Option Fact
@@ -21,6 +26,24 @@ given problem facts (Some rule) = cond (applies problem facts rule) (Some rule.g
 -- rule 9, which version 2 alone has
 abbrev pub free_rule_in : Problem → ℕ → ℕ → ℕ → Option Rule
 free_rule_in problem version f g = cond ((version == 2) && ends_base_of problem f g) (Some (free_rule problem f g)) None
+
+-- the same by what is known of a list
+abbrev pub given_in : List Op → Known → Option Rule → Option Fact
+given_in list known rule = given (problem_of list) (knows list known) rule
+
+-- an operation is no other user of a base that f ends and g has, or it stands before f
+abbrev pub user_precedes : Problem → Facts → ℕ → ℕ → ℕ → Bool
+user_precedes problem facts f g u = not (ends_base_of problem u g && (not (u == f) && not (u == g))) || facts (Before u f)
+
+-- the other users stand before f
+abbrev pub users_precede : Problem → Facts → ℕ → ℕ → Bool
+users_precede problem facts f g = list_all facts (map (λ u. Before u f) (other_users problem f g))
+
+-- rule 9 gives that f and g share a block, which is new
+abbrev pub free_step : Problem → ℕ → Facts → ℕ → ℕ → Bool
+free_step problem version facts f g =
+    (version == 2)
+    && (is_op problem f && (is_op problem g && (not (f == g) && (ends_base_of problem f g && (users_precede problem facts f g && not (facts (Same f g)))))))
 
 -- ---- a record of a tree
 
@@ -52,6 +75,14 @@ pending_of problem trail waits false = facts_of problem trail ∷ waiting proble
 
 abbrev pub pending : Problem → Tree → List Facts
 pending problem tree = pending_of problem tree.known.trail.items (reverse tree.waits.items) tree.whole
+
+-- nothing of the tree was read
+abbrev pub IsFresh : Problem → Tree → Type 0
+IsFresh problem tree = pending problem tree ≡ root_facts problem ∷ []
+
+-- a subtree is whole: what waited for its end is still to come
+abbrev pub GoesBack : Problem → Tree → Tree → Type 0
+GoesBack problem old new = pending problem new ≡ waiting problem old.known.trail.items (reverse old.waits.items)
 
 -- each mark lies in the list before it, from the newest on, and the fact that waits was not known there
 abbrev pub AreWaits : Problem → List Fact → ℕ → List Waiting → Type 0

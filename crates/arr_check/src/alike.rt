@@ -19,7 +19,7 @@ pub(crate) fn identical(a: &View, b: &View) -> bool
 }
 
 /// The elements of a view, marked in a row of bits up to the greatest.
-pub(crate) fn marked(alloc: Global, view: &View) -> Result<Vec<bool>, NoMemory>
+pub(crate) fn marks_of(alloc: Global, view: &View) -> Result<Vec<bool>, NoMemory>
     ensures { IfOk result (λ marks. Marks marks.items (elements view.now)) }
 {
     let (_least, greatest) = view.ends();

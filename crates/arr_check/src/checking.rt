@@ -1,13 +1,13 @@
 //! The checker of certificates.
-ghost use Rattle.std.specs.Prelude.{◌≡◌, ◌≤◌, ◌<◌, IfErr, IfOk, IfSome, IsErrOf, IsTrue, MatchOption, None, Ok, false, length, true};
+ghost use Rattle.std.specs.Prelude.{◌≡◌, ◌≤◌, ◌<◌, IfOk, IsErrOf, IsTrue, MatchOption, None, Ok, false, length, true};
 ghost use Rattle.std.specs.Io.KnownBytes.{IsAtEnd};
 ghost use Rattle.arr_io.specs.Causes.{Rose};
 ghost use Rattle.arr_ops.specs.Formed.{is_formed};
 ghost use Rattle.arr_law.specs.ProblemOf.{problem_of};
-ghost use Rattle.arr_cert.specs.Proofs.{HasMetEnd, is_over, last_line, next_line, unread};
-ghost use Rattle.arr_check.specs.Judged.{Finds, IsSure, Judged, Left, is_yes, left_kind};
-ghost use Rattle.arr_check.specs.Stages.{IsFresh, is_ready};
-ghost use Rattle.arr_check.specs.Steps.{IsTree};
+ghost use Rattle.arr_cert.specs.Proofs.{HasMetEnd, is_over, next_line, unread};
+ghost use Rattle.arr_check.specs.Judged.{Finds, IsSure, Judges, Left, is_yes, left_kind};
+ghost use Rattle.arr_check.specs.Stages.{is_ready};
+ghost use Rattle.arr_check.specs.Steps.{IsFresh, IsTree};
 ghost use Rattle.arr_check.specs.declared.stages.Stage.TheVariants as at_stage;
 
 use crate::stages::{Stage, read};
@@ -68,7 +68,7 @@ fn judge<S: Source>(
     requires fresh { IsFresh (problem_of tables.now) tree.old }
     requires open { is_over reader.old ≡ false }
     requires met { HasMetEnd S.Source reader.old source.old }
-    ensures judged { IfOk result (Judged (problem_of tables.now) number (unread S.Source reader.old source.old) (unread S.Source reader.new source.new)) }
+    ensures judged { IfOk result (Judges S.Source tables.now number reader.old reader.new source.old source.new) }
     ensures open { IfOk result (λ verdict. is_yes verdict ≡ true → is_over reader.new ≡ false) }
     ensures met { HasMetEnd S.Source reader.new source.new }
     ensures later { S.faults source.old ≤ S.faults source.new }
@@ -125,7 +125,7 @@ pub fn check<S: Source>(
     requires few { length ops.now ≤ 256 }
     requires open { is_over reader.old ≡ false }
     requires met { HasMetEnd S.Source reader.old source.old }
-    ensures judged { IfOk result (Judged (problem_of ops.now) number (unread S.Source reader.old source.old) (unread S.Source reader.new source.new)) }
+    ensures judged { IfOk result (Judges S.Source ops.now number reader.old reader.new source.old source.new) }
     ensures sure { IsTrue (is_formed ops.now) → IfOk result (IsSure ops.now) }
     ensures open { IfOk result (λ verdict. is_yes verdict ≡ true → is_over reader.new ≡ false) }
     ensures met { HasMetEnd S.Source reader.new source.new }

@@ -9,7 +9,7 @@ ghost use Rattle.arr_law.specs.ProblemOf.{views_of};
 ghost use Rattle.arr_check.specs.Classed.{overlaps_of, view_in, with_first};
 
 use crate::NoMemory;
-use crate::alike::{identical, marked, overlaps};
+use crate::alike::{identical, marks_of, overlaps};
 use arr_ops::{Op, Operand};
 use arr_view::View;
 use std::alloc::Global;
@@ -115,7 +115,7 @@ fn push_row(
 ) -> Result<(), NoMemory>
     ensures { IfOk result (λ done. meets.new.items ≡ meets.old.items ++ map (λ v. overlap v with.now) views.now) }
 {
-    let marks = marked(alloc, with)?;
+    let marks = marks_of(alloc, with)?;
     for view in views {
         meets.push(overlaps(view, with, &marks))?;
     }

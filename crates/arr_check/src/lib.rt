@@ -12,7 +12,7 @@
 //! element up to its greatest. To mark and to walk, classes of one base take time in the product of their number and their elements.
 //!
 //! The definitions, in `specs/`: `Judged` (a verdict is the answer to what was read, and what a yes shows); the others are for private calls:
-//! `Stages`, `Steps`, `Known`, `Places`, `Tables`, `Classed`. `docs/CERTIFICATES.md` says in words what is judged.
+//! `Stages`, `Steps`, `Known`, `Leaves`, `Places`, `Tables`, `Classed`. `docs/CERTIFICATES.md` says in words what is judged.
 #![tactic(auto)]
 
 mod alike;

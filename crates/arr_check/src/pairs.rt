@@ -4,8 +4,8 @@ ghost use Rattle.std.specs.List.{list_any};
 ghost use Rattle.std.specs.Option.{option_copied};
 ghost use Rattle.arr_num.specs.Kinds.{is_reduction, walks_input};
 ghost use Rattle.arr_view.specs.Views.{has, same_lists};
-ghost use Rattle.arr_ops.specs.Ops.{crosses, dep, disturbs, freed, fusible, named, inputs, is_free, outputs, same_walk, serial, walked};
-ghost use Rattle.arr_check.specs.Classed.{cross, first_view, meet, within, Stands};
+ghost use Rattle.arr_ops.specs.Ops.{crosses, dep, disturbs, freed, fusible, named, inputs, outputs, same_walk, serial, walked};
+ghost use Rattle.arr_check.specs.Classed.{Stands, cross, crosses_some, first_view, meet, meets_some, within};
 
 use crate::classed::Classed;
 use crate::classes::Classes;
@@ -75,7 +75,7 @@ fn meets_any(classes: &Classes, out: Option<u32>, other: &Classed) -> bool
     requires other_out { IsTrue (within (length classes.now) other.now.out) }
     requires first { IsTrue (within (length classes.now) other.now.first) }
     requires second { IsTrue (within (length classes.now) other.now.second) }
-    ensures { result ≡ ((meet classes.now out other.now.out || meet classes.now out other.now.first) || meet classes.now out other.now.second) }
+    ensures { result ≡ meets_some classes.now out other.now }
 {
     meet(classes, out, other.out)
         || meet(classes, out, other.first)
@@ -88,7 +88,7 @@ fn crosses_any(classes: &Classes, never: bool, out: Option<u32>, other: &Classed
     requires other_out { IsTrue (within (length classes.now) other.now.out) }
     requires first { IsTrue (within (length classes.now) other.now.first) }
     requires second { IsTrue (within (length classes.now) other.now.second) }
-    ensures { result ≡ ((cross classes.now never out other.now.out || cross classes.now never out other.now.first) || cross classes.now never out other.now.second) }
+    ensures { result ≡ crosses_some classes.now never out other.now }
 {
     cross(classes, never, out, other.out)
         || cross(classes, never, out, other.first)

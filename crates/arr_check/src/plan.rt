@@ -1,11 +1,11 @@
 //! Plans, as a place for each operation, counted from 1.
-ghost use Rattle.std.specs.Prelude.{◌≡◌, ◌≤◌, ◌<◌, ◌+◌, ◌-◌, ◌==◌, ◌||◌, ◌&&◌, max, not, nat_le, true, length};
+ghost use Rattle.std.specs.Prelude.{◌≡◌, ◌≤◌, ◌<◌, ◌+◌, ◌-◌, ◌==◌, ◌||◌, ◌&&◌, max, nat_le, true};
 ghost use Rattle.std.specs.List.{list_all, list_any};
 ghost use Rattle.arr_law.specs.Plans.{are_places, charged_at, greatest, is_forward, is_together, outside_at, place_in, price};
-ghost use Rattle.arr_law.specs.Problem.{is_op, is_pair, operations, sum_below};
+ghost use Rattle.arr_law.specs.Problem.{is_op, is_pair, operations};
 ghost use Rattle.arr_law.specs.ProblemOf.{problem_of};
 ghost use Rattle.arr_law.specs.Verdict.{plan_fault};
-ghost use Rattle.arr_check.specs.Places.{class_cost, spot};
+ghost use Rattle.arr_check.specs.Places.{block_price, block_reads, block_writes, class_cost, may_precede, may_stand_with, spot};
 
 use crate::known::is_pair;
 use crate::tables::Tables;
@@ -61,7 +61,7 @@ fn place_in(places: &Places, f: u32) -> u32
 
 /// Whether two operations of one block are fusible.
 fn may_share(tables: &Tables, places: &Places, f: u32, g: u32) -> bool
-    ensures { result ≡ (not (is_pair (problem_of tables.now) f g) || (not (place_in places.now f == place_in places.now g) || (problem_of tables.now).fusible f g)) }
+    ensures { result ≡ may_stand_with (problem_of tables.now) places.now f g }
 {
     if !is_pair(tables, f, g) {
         return true;
@@ -70,7 +70,7 @@ fn may_share(tables: &Tables, places: &Places, f: u32, g: u32) -> bool
 }
 
 fn shares_rightly(tables: &Tables, places: &Places, f: u32) -> bool
-    ensures { result ≡ list_all (λ g. not (is_pair (problem_of tables.now) f g) || (not (place_in places.now f == place_in places.now g) || (problem_of tables.now).fusible f g)) (operations (problem_of tables.now)) }
+    ensures { result ≡ list_all (may_stand_with (problem_of tables.now) places.now f) (operations (problem_of tables.now)) }
 {
     for k in 0..tables.count() {
         if !may_share(tables, places, f, k + 1) {
@@ -94,7 +94,7 @@ fn is_together(tables: &Tables, places: &Places) -> bool
 
 /// Whether an operation does not stand after one that depends on it.
 fn may_stand(tables: &Tables, places: &Places, f: u32, g: u32) -> bool
-    ensures { result ≡ (not (is_pair (problem_of tables.now) f g) || (not ((problem_of tables.now).dep f g) || nat_le (place_in places.now f) (place_in places.now g))) }
+    ensures { result ≡ may_precede (problem_of tables.now) places.now f g }
 {
     if !is_pair(tables, f, g) {
         return true;
@@ -103,7 +103,7 @@ fn may_stand(tables: &Tables, places: &Places, f: u32, g: u32) -> bool
 }
 
 fn stands_rightly(tables: &Tables, places: &Places, f: u32) -> bool
-    ensures { result ≡ list_all (λ g. not (is_pair (problem_of tables.now) f g) || (not ((problem_of tables.now).dep f g) || nat_le (place_in places.now f) (place_in places.now g))) (operations (problem_of tables.now)) }
+    ensures { result ≡ list_all (may_precede (problem_of tables.now) places.now f) (operations (problem_of tables.now)) }
 {
     for k in 0..tables.count() {
         if !may_stand(tables, places, f, k + 1) {
@@ -169,7 +169,7 @@ fn writes_at(tables: &Tables, places: &Places, block: u32, c: u32, f: u32) -> bo
 /// Whether an operation of a block reads a view of a class.
 fn reads_there(tables: &Tables, places: &Places, block: u32, c: u32) -> bool
     requires { c < (problem_of tables.now).classes }
-    ensures { result ≡ list_any (λ f. (spot places.now f == block) && (problem_of tables.now).reads f c) (operations (problem_of tables.now)) }
+    ensures { result ≡ block_reads (problem_of tables.now) places.now block c }
 {
     for k in 0..tables.count() {
         if reads_at(tables, places, block, c, k + 1) {
@@ -182,7 +182,7 @@ fn reads_there(tables: &Tables, places: &Places, block: u32, c: u32) -> bool
 /// Whether an operation of a block writes a view of a class.
 fn writes_there(tables: &Tables, places: &Places, block: u32, c: u32) -> bool
     requires { c < (problem_of tables.now).classes }
-    ensures { result ≡ list_any (λ f. (spot places.now f == block) && (problem_of tables.now).writes f c) (operations (problem_of tables.now)) }
+    ensures { result ≡ block_writes (problem_of tables.now) places.now block c }
 {
     for k in 0..tables.count() {
         if writes_at(tables, places, block, c, k + 1) {
@@ -226,7 +226,7 @@ fn class_cost(tables: &Tables, places: &Places, block: u32, c: u32) -> u64
 
 /// What a block costs, in bytes.
 fn block_cost(tables: &Tables, places: &Places, block: u32) -> u64
-    ensures value { result ≡ sum_below (class_cost (problem_of tables.now) places.now block) (problem_of tables.now).classes }
+    ensures value { result ≡ block_price (problem_of tables.now) places.now block }
     ensures small { result ≤ 6442450944 }
 {
     let mut total: u64 = 0;

@@ -1,12 +1,11 @@
 //! The records of one list, one after another.
-ghost use Rattle.std.specs.Prelude.{◌≡◌, [], IfOk, List, ℕ};
+ghost use Rattle.std.specs.Prelude.{◌≡◌, IfOk, ℕ};
 ghost use Rattle.arr_law.specs.Plans.{price};
-ghost use Rattle.arr_law.specs.Problem.{Problem};
 ghost use Rattle.arr_law.specs.ProblemOf.{problem_of};
-ghost use Rattle.arr_law.specs.Verdict.{end_fault, AtBound, AtCost, AtHead, AtPlan, AtTree, State};
+ghost use Rattle.arr_law.specs.Verdict.{end_fault, AtHead, AtPlan};
 ghost use Rattle.arr_check.specs.declared.tree.Tree.{Tree};
-ghost use Rattle.arr_check.specs.Stages.{IsAt, IsFresh, Turns};
-ghost use Rattle.arr_check.specs.Steps.{pending, IsTree};
+ghost use Rattle.arr_check.specs.Stages.{TurnsAt, TurnsBound, TurnsCost, TurnsFresh, TurnsTree, TurnsWhole};
+ghost use Rattle.arr_check.specs.Steps.{IsTree};
 
 use crate::NoMemory;
 use crate::plan::{plan_fault, price};
@@ -32,7 +31,7 @@ pub(crate) enum Stage {
 }
 
 fn head(tables: &Tables, number: u32, entry: &Record) -> Result<Stage, Reject>
-    ensures { (tree : Tree) → IsFresh (problem_of tables.now) tree → Turns (problem_of tables.now) number AtHead tree entry.now result }
+    ensures { TurnsFresh (problem_of tables.now) number AtHead entry.now result }
 {
     match entry {
         Record::Flush {
@@ -51,7 +50,7 @@ fn head(tables: &Tables, number: u32, entry: &Record) -> Result<Stage, Reject>
 }
 
 fn plan(tables: &Tables, version: u8, entry: &Record) -> Result<Stage, Reject>
-    ensures { (number : ℕ) (tree : Tree) → IsFresh (problem_of tables.now) tree → Turns (problem_of tables.now) number (AtPlan version) tree entry.now result }
+    ensures { (number : ℕ) → TurnsFresh (problem_of tables.now) number (AtPlan version) entry.now result }
 {
     match entry {
         Record::Plan(places) => match plan_fault(tables, places) {
@@ -66,7 +65,7 @@ fn plan(tables: &Tables, version: u8, entry: &Record) -> Result<Stage, Reject>
 }
 
 fn cost(version: u8, spent: u128, entry: &Record) -> Result<Stage, Reject>
-    ensures { (problem : Problem) (number : ℕ) (tree : Tree) (places : List ℕ) → IsFresh problem tree → spent ≡ price problem places → Turns problem number (AtCost version places) tree entry.now result }
+    ensures { TurnsCost version spent entry.now result }
 {
     match entry {
         Record::Cost(cost) => {
@@ -84,7 +83,7 @@ fn cost(version: u8, spent: u128, entry: &Record) -> Result<Stage, Reject>
 }
 
 fn bound(version: u8, cost: u64, entry: &Record) -> Result<Stage, Reject>
-    ensures { (problem : Problem) (number : ℕ) (tree : Tree) (places : List ℕ) → IsFresh problem tree → Turns problem number (AtBound version places cost) tree entry.now result }
+    ensures { TurnsBound version cost entry.now result }
 {
     match entry {
         Record::Bound(bound) => Ok(Stage::Tree {
@@ -110,7 +109,7 @@ fn end_fault(entry: &Record) -> Option<Reject>
 }
 
 fn end(cost: u64, bound: u64, entry: &Record) -> Result<Stage, Reject>
-    ensures { (problem : Problem) (number version : ℕ) (tree : Tree) (places : List ℕ) → Turns problem number (AtTree version places cost bound []) tree entry.now result }
+    ensures { TurnsWhole cost bound entry.now result }
 {
     match end_fault(entry) {
         None => Ok(Stage::Done { cost, bound }),
@@ -128,7 +127,7 @@ fn grow(
     entry: &Record,
 ) -> Result<Result<Stage, Reject>, NoMemory>
     requires { IsTree (problem_of tables.now) tree.old }
-    ensures turns { IfOk result (λ next. (number : ℕ) (places : List ℕ) → Turns (problem_of tables.now) number (AtTree version places cost bound (pending (problem_of tables.now) tree.old)) tree.new entry.now next) }
+    ensures turns { IfOk result (λ next. TurnsTree (problem_of tables.now) version cost bound tree.old tree.new entry.now next) }
     ensures tree { IfOk result (λ next. IfOk next (λ stage. IsTree (problem_of tables.now) tree.new)) }
 {
     if tree.whole {
@@ -153,7 +152,7 @@ pub(crate) fn read(
     entry: &Record,
 ) -> Result<Result<Stage, Reject>, NoMemory>
     requires { IsTree (problem_of tables.now) tree.old }
-    ensures turns { IfOk result (λ next. (s : State) → IsAt (problem_of tables.now) stage tree.old s → Turns (problem_of tables.now) number s tree.new entry.now next) }
+    ensures turns { IfOk result (λ next. TurnsAt (problem_of tables.now) number stage tree.old tree.new entry.now next) }
     ensures tree { IfOk result (λ next. IfOk next (λ stage. IsTree (problem_of tables.now) tree.new)) }
 {
     match stage {

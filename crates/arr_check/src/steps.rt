@@ -1,13 +1,13 @@
 //! Steps: what a rule gives.
-ghost use Rattle.std.specs.Prelude.{◌≡◌, ◌∷◌, [], ◌==◌, ◌&&◌, ◌||◌, not, map, true, Some};
+ghost use Rattle.std.specs.Prelude.{◌≡◌, [], ◌==◌, ◌&&◌, ◌||◌, not, true, Some};
 ghost use Rattle.std.specs.List.{list_all};
 ghost use Rattle.arr_law.specs.declared.fact.Fact.TheVariants.{Before, Same};
-ghost use Rattle.arr_law.specs.Problem.{is_op, ends_base_of};
+ghost use Rattle.arr_law.specs.Problem.{is_op};
 ghost use Rattle.arr_law.specs.ProblemOf.{problem_of};
-ghost use Rattle.arr_law.specs.Rules.{other_users, rule_named};
+ghost use Rattle.arr_law.specs.Rules.{rule_named};
 ghost use Rattle.arr_ops.specs.Formed.{all_pairs};
-ghost use Rattle.arr_check.specs.Known.{known_of, IsFine};
-ghost use Rattle.arr_check.specs.Steps.{free_rule_in, given};
+ghost use Rattle.arr_check.specs.Known.{IsFine, known_of, knows};
+ghost use Rattle.arr_check.specs.Steps.{free_rule_in, free_step, given_in, user_precedes, users_precede};
 
 use crate::known::Known;
 use crate::tables::Tables;
@@ -50,7 +50,7 @@ fn conclusion(
     gives: Fact,
 ) -> Option<Fact>
     requires { IsFine (problem_of tables.now) known.now }
-    ensures { result ≡ given (problem_of tables.now) (known_of (problem_of tables.now) known.now) (Some (record { operations = operations.now; premises = premises.now; gives = gives })) }
+    ensures { result ≡ given_in tables.now known.now (Some (record { operations = operations.now; premises = premises.now; gives = gives })) }
 {
     if are_ops(tables, operations)
         && are_different(operations)
@@ -68,7 +68,7 @@ fn is_served(tables: &Tables, known: &Known, u: u32, f: u32, g: u32) -> bool
     requires fine { IsFine (problem_of tables.now) known.now }
     requires user { is_op (problem_of tables.now) u ≡ true }
     requires free { is_op (problem_of tables.now) g ≡ true }
-    ensures { result ≡ (not (ends_base_of (problem_of tables.now) u g && (not (u == f) && not (u == g))) || known_of (problem_of tables.now) known.now (Before u f)) }
+    ensures { result ≡ user_precedes (problem_of tables.now) (knows tables.now known.now) f g u }
 {
     !(tables.ends_base_of(u, g) && u != f && u != g) || known.has(tables, Fact::Before(u, f))
 }
@@ -77,7 +77,7 @@ fn is_served(tables: &Tables, known: &Known, u: u32, f: u32, g: u32) -> bool
 fn are_before(tables: &Tables, known: &Known, f: u32, g: u32) -> bool
     requires fine { IsFine (problem_of tables.now) known.now }
     requires free { is_op (problem_of tables.now) g ≡ true }
-    ensures { result ≡ list_all (known_of (problem_of tables.now) known.now) (map (λ u. Before u f) (other_users (problem_of tables.now) f g)) }
+    ensures { result ≡ users_precede (problem_of tables.now) (knows tables.now known.now) f g }
 {
     for k in 0..tables.count() {
         if !is_served(tables, known, k + 1, f, g) {
@@ -90,7 +90,7 @@ fn are_before(tables: &Tables, known: &Known, f: u32, g: u32) -> bool
 /// Whether rule 9 applies: the FREE `g` joins `f`, the user that all others stand before.
 fn may_join(tables: &Tables, known: &Known, version: u8, f: u32, g: u32) -> bool
     requires { IsFine (problem_of tables.now) known.now }
-    ensures { result ≡ ((version == 2) && (is_op (problem_of tables.now) f && (is_op (problem_of tables.now) g && (not (f == g) && (ends_base_of (problem_of tables.now) f g && (list_all (known_of (problem_of tables.now) known.now) (map (λ u. Before u f) (other_users (problem_of tables.now) f g)) && not (known_of (problem_of tables.now) known.now (Same f g)))))))) }
+    ensures { result ≡ free_step (problem_of tables.now) version (knows tables.now known.now) f g }
 {
     version == 2
         && tables.is_op(f)
@@ -102,9 +102,9 @@ fn may_join(tables: &Tables, known: &Known, version: u8, f: u32, g: u32) -> bool
 }
 
 /// What rule 9 gives, where it applies.
-fn joined(tables: &Tables, known: &Known, version: u8, f: u32, g: u32) -> Option<Fact>
+fn given_by_free_rule(tables: &Tables, known: &Known, version: u8, f: u32, g: u32) -> Option<Fact>
     requires { IsFine (problem_of tables.now) known.now }
-    ensures { result ≡ given (problem_of tables.now) (known_of (problem_of tables.now) known.now) (free_rule_in (problem_of tables.now) version f g) }
+    ensures { result ≡ given_in tables.now known.now (free_rule_in (problem_of tables.now) version f g) }
 {
     if may_join(tables, known, version, f, g) {
         Some(Fact::Same(f, g))
@@ -124,7 +124,7 @@ pub(crate) fn step(
     h: u32,
 ) -> Option<Fact>
     requires { IsFine (problem_of tables.now) known.now }
-    ensures { result ≡ given (problem_of tables.now) (known_of (problem_of tables.now) known.now) (rule_named (problem_of tables.now) version rule f g h) }
+    ensures { result ≡ given_in tables.now known.now (rule_named (problem_of tables.now) version rule f g h) }
 {
     use Fact::{Apart, Before, Same};
     match rule {
@@ -164,7 +164,7 @@ pub(crate) fn step(
             &[Before(f, g), Before(g, h), Apart(g, h)],
             Apart(f, h),
         ),
-        9 => joined(tables, known, version, f, g),
+        9 => given_by_free_rule(tables, known, version, f, g),
         _ => None,
     }
 }

@@ -12,7 +12,7 @@ use crate::classed::{Classed, class_table};
 use crate::classes::Classes;
 use crate::pairs::{depend, may_fuse};
 use crate::weights::{Entry, entries};
-use arr_ops::Op;
+use arr_ops::{Op, copied_ops};
 use arr_view::View;
 use std::alloc::Global;
 use std::marker::Model;
@@ -40,16 +40,6 @@ impl Model for Tables {
     ghost view = { λ t. t.ops.items };
 
     ghost invariant = { λ t. (length t.ops.items ≤ 256) × (t.classes ≡ views_of t.ops.items) × (length (views_of t.ops.items) ≤ 768) × (t.parts.items ≡ map (classes_of (views_of t.ops.items)) t.ops.items) × (t.entries.items ≡ map (entry_of t.ops.items) (views_of t.ops.items)) × (All (λ entry. entry.weight ≤ 8388608) t.entries.items) };
-}
-
-fn copied(alloc: Global, ops: &[Op]) -> Result<Vec<Op>, NoMemory>
-    ensures { IfOk result (λ copy. copy.items ≡ ops.now) }
-{
-    let mut copy = Vec::new(alloc);
-    for op in ops {
-        copy.push(op.copied())?;
-    }
-    Ok(copy)
 }
 
 fn is_of(view: Option<&View>, base: u32) -> bool
@@ -85,7 +75,7 @@ impl Tables {
     {
         let classes = Classes::of(alloc, ops)?;
         Ok(Tables {
-            ops: copied(alloc, ops)?,
+            ops: copied_ops(alloc, ops)?,
             parts: class_table(alloc, &classes, ops)?,
             entries: entries(alloc, ops, classes.views())?,
             classes,

@@ -1,10 +1,9 @@
 //! The tree of a certificate, record by record.
-ghost use Rattle.std.specs.Prelude.{◌≡◌, ◌∷◌, [], IfOk, ℕ, false, reverse};
+ghost use Rattle.std.specs.Prelude.{◌≡◌, IfOk, ℕ, false};
 ghost use Rattle.arr_law.specs.declared.record.Record.TheVariants.{Branch, Dead, Worth};
-ghost use Rattle.arr_law.specs.Facts.{root_facts};
 ghost use Rattle.arr_law.specs.ProblemOf.{problem_of};
-ghost use Rattle.arr_check.specs.Known.{known_of, IsFine};
-ghost use Rattle.arr_check.specs.Steps.{pending, waiting, DoesMove, Grows, IsTree};
+ghost use Rattle.arr_check.specs.Known.{IsFine, knows};
+ghost use Rattle.arr_check.specs.Steps.{DoesMove, GoesBack, Grows, IsFresh, IsTree};
 
 use crate::NoMemory;
 use crate::known::Known;
@@ -45,7 +44,7 @@ pub(crate) struct Tree {
 
 fn branch_move(tables: &Tables, known: &Known, f: u32, g: u32) -> Move
     requires { IsFine (problem_of tables.now) known.now }
-    ensures { (version bound : ℕ) → DoesMove (problem_of tables.now) version bound (known_of (problem_of tables.now) known.now) (Branch f g) result }
+    ensures { (version bound : ℕ) → DoesMove (problem_of tables.now) version bound (knows tables.now known.now) (Branch f g) result }
 {
     if tables.is_op(f)
         && tables.is_op(g)
@@ -61,7 +60,7 @@ fn branch_move(tables: &Tables, known: &Known, f: u32, g: u32) -> Move
 
 fn dead_move(tables: &Tables, known: &Known, f: u32, g: u32) -> Move
     requires { IsFine (problem_of tables.now) known.now }
-    ensures { (version bound : ℕ) → DoesMove (problem_of tables.now) version bound (known_of (problem_of tables.now) known.now) (Dead f g) result }
+    ensures { (version bound : ℕ) → DoesMove (problem_of tables.now) version bound (knows tables.now known.now) (Dead f g) result }
 {
     if f < g && known.has(tables, Fact::Same(f, g)) && known.has(tables, Fact::Apart(f, g)) {
         Move::Close
@@ -72,7 +71,7 @@ fn dead_move(tables: &Tables, known: &Known, f: u32, g: u32) -> Move
 
 fn worth_move(tables: &Tables, known: &Known, bound: u64, charges: &Charges) -> Move
     requires { IsFine (problem_of tables.now) known.now }
-    ensures { (version : ℕ) → DoesMove (problem_of tables.now) version bound (known_of (problem_of tables.now) known.now) (Worth charges.now) result }
+    ensures { (version : ℕ) → DoesMove (problem_of tables.now) version bound (knows tables.now known.now) (Worth charges.now) result }
 {
     if !is_leaf(tables, known, charges) {
         return Move::Wrong(Reject::BadLeaf);
@@ -87,7 +86,7 @@ fn worth_move(tables: &Tables, known: &Known, bound: u64, charges: &Charges) -> 
 /// What a record does under what is known.
 fn move_of(tables: &Tables, known: &Known, version: u8, bound: u64, entry: &Record) -> Move
     requires { IsFine (problem_of tables.now) known.now }
-    ensures { DoesMove (problem_of tables.now) version bound (known_of (problem_of tables.now) known.now) entry.now result }
+    ensures { DoesMove (problem_of tables.now) version bound (knows tables.now known.now) entry.now result }
 {
     match entry {
         Record::Step { rule, f, g, h } => match step(tables, known, version, *rule, *f, *g, *h) {
@@ -106,7 +105,7 @@ impl Tree {
     /// A tree of which nothing was read. Want of memory is its one refusal.
     pub(crate) fn new(alloc: Global, tables: &Tables) -> Result<Tree, NoMemory>
         ensures is { IfOk result (IsTree (problem_of tables.now)) }
-        ensures root { IfOk result (λ tree. pending (problem_of tables.now) tree ≡ root_facts (problem_of tables.now) ∷ []) }
+        ensures root { IfOk result (λ tree. IsFresh (problem_of tables.now) tree) }
         ensures open { IfOk result (λ tree. tree.whole ≡ false) }
     {
         Ok(Tree {
@@ -121,7 +120,7 @@ impl Tree {
         requires tree { IsTree (problem_of tables.now) self.old }
         requires open { self.old.whole ≡ false }
         ensures tree { IfOk result (λ done. IsTree (problem_of tables.now) self.new) }
-        ensures next { IfOk result (λ done. pending (problem_of tables.now) self.new ≡ waiting (problem_of tables.now) self.old.known.trail.items (reverse self.old.waits.items)) }
+        ensures next { IfOk result (λ done. GoesBack (problem_of tables.now) self.old self.new) }
     {
         match self.waits.pop() {
             Some(next) => {

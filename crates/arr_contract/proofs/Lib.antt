@@ -8,3 +8,4 @@ pub mod Walked
 pub mod Tasking
 pub mod Parallel
 pub mod Sums
+pub mod KeptNumbers

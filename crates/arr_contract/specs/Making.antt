@@ -1,5 +1,5 @@
 -- The lanes of a block.
-use Rattle.std.specs.Prelude.{ℕ, ◌≡◌, true, List, [], ◌∷◌, ◌++◌, map, replicate, Option, Some, None}
+use Rattle.std.specs.Prelude.{ℕ, ◌≡◌, ◌≤◌, true, List, [], ◌∷◌, ◌++◌, map, replicate, Option, Some, None, slice_get}
 use Rattle.std.specs.List.{flat_map}
 use Rattle.arr_num.specs.declared.elem.Elem.{Elem}
 use Rattle.arr_num.specs.declared.elem.Elem.TheVariants.{U64}
@@ -17,6 +17,9 @@ use Rattle.arr_store.specs.Cells.{blank}
 use Rattle.arr_strips.specs.Blocks.{block_positions}
 use Rattle.arr_strips.specs.Registers.{number_in, register_views}
 use Rattle.arr_strips.specs.Strips.{loaded}
+use Rattle.arr_lanes.specs.Lanes.{IsLane}
+use Rattle.arr_machine.specs.declared.walk.Machine.{Machine}
+use Rattle.arr_contract.specs.Prepared.{writer}
 
 -- one number at each of so many places, for a constant; nothing for another operand
 abbrev pub constant_cell : Elem → ℕ → Option Operand → Cell
@@ -54,3 +57,8 @@ IsExponent (Some (Array v)) = ⊥
 pub record IsWalked (ops : List Op) (v : Strided) : Type 0 where
   pub register : loaded (register_views ops) v ≡ true
   pub long : positions v.lengths ≡ block_positions ops
+
+-- what a block with a serial operation has for it: a lane of the type of the first operation that writes
+pub record HasLane (ops : List Op) (m : Machine) : Type 0 where
+  pub some : 1 ≤ m.room
+  pub lane : (op : Op) → writer ops ≡ Some op → IsLane op.to m.room (slice_get m.lanes.items 0)

@@ -9,7 +9,7 @@ use arr_ops::Op;
 use std::alloc::Global;
 
 /// Whether some operation of a block frees a base.
-fn frees(block: &[Op], base: u32) -> bool
+pub(crate) fn frees(block: &[Op], base: u32) -> bool
     ensures { result ≡ freed_by block.now base }
 {
     block.iter().any(|op| op.frees == Some(base))

@@ -15,7 +15,12 @@ use arr_view::View;
 use std::alloc::Global;
 
 /// A lane with one number at each of its places.
-fn filled_lane(alloc: Global, ty: Elem, number: i128, room: usize) -> Result<Buffer, NoMemory>
+pub(crate) fn filled_lane(
+    alloc: Global,
+    ty: Elem,
+    number: i128,
+    room: usize,
+) -> Result<Buffer, NoMemory>
     requires { in_type ty number ≡ true }
     ensures { IfOk result (λ lane. cell_of lane ≡ record { elem = ty; numbers = replicate room number }) }
 {

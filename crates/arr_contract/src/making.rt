@@ -1,5 +1,5 @@
 //! All that a block takes to walk its positions in strips.
-ghost use Rattle.std.specs.Prelude.{◌≡◌, ◌≤◌, ◌/◌, IfOk, false, length, map, max, min, true};
+ghost use Rattle.std.specs.Prelude.{◌≡◌, ◌≤◌, ◌/◌, IfOk, false, length, map, max, min, slice_get, true};
 ghost use Rattle.std.specs.List.{AllByRecursion, list_all};
 ghost use Rattle.std.specs.Option.{option_to_list};
 ghost use Rattle.arr_num.specs.Numbers.{width};
@@ -8,13 +8,15 @@ ghost use Rattle.arr_ops.specs.Formed.{each_typed, well_formed};
 ghost use Rattle.arr_ops.specs.Ops.{walked};
 ghost use Rattle.arr_strips.specs.Blocks.{block_positions, is_block};
 ghost use Rattle.arr_strips.specs.Registers.{register_views};
+ghost use Rattle.arr_lanes.specs.Lanes.{IsLane};
 ghost use Rattle.arr_machine.specs.Machines.{IsMachineOf};
 ghost use Rattle.arr_machine.specs.Ports.{ArePorts};
-ghost use Rattle.arr_contract.specs.Making.{IsWalked};
+ghost use Rattle.arr_contract.specs.Making.{HasLane, IsWalked};
 ghost use Rattle.arr_contract.specs.Prepared.{strip, widest};
 
 use crate::NoMemory;
-use crate::lanes::lanes_of;
+use crate::lanes::{filled_lane, lanes_of};
+use crate::sliding::writer;
 use crate::storing::stored_views;
 use crate::tasks::{number_in, tasks_of};
 use arr_cost::block_reads;
@@ -137,7 +139,7 @@ pub(crate) fn machine_of(alloc: Global, ops: &[Op], views: &[View]) -> Result<Ma
     })
 }
 
-/// All that a block takes to walk its positions; nothing, where it has a serial operation and so walks none.
+/// All that a block takes to walk its positions; where it has a serial operation and so walks none, a lane of the type of that.
 pub(crate) fn machine_for(
     alloc: Global,
     ops: &[Op],
@@ -150,22 +152,39 @@ pub(crate) fn machine_for(
     requires views { views.now ≡ register_views ops.now }
     ensures machine { IfOk result (λ machine. is_serial ≡ false → IsMachineOf ops.now machine) }
     ensures strip { IfOk result (λ machine. is_serial ≡ false → machine.room ≡ strip ops.now) }
+    ensures lane { IfOk result (λ machine. is_serial ≡ true → HasLane ops.now machine) }
 {
     if is_serial {
-        return idle_machine(alloc);
+        return idle_machine(alloc, ops);
     }
     machine_of(alloc, ops, views)
 }
 
-/// A machine that walks nothing.
-fn idle_machine(alloc: Global) -> Result<Machine, NoMemory> {
+/// A machine that walks nothing, with a lane of the type of the first operation that writes.
+fn idle_machine(alloc: Global, ops: &[Op]) -> Result<Machine, NoMemory>
+    ensures { IfOk result (HasLane ops.now) }
+{
+    match writer(ops) {
+        Some(op) => one_lane(alloc, op.to),
+        None => one_lane(alloc, Elem::U8),
+    }
+}
+
+/// A machine that walks nothing, with one lane.
+fn one_lane(alloc: Global, ty: Elem) -> Result<Machine, NoMemory>
+    ensures some { IfOk result (λ machine. 1 ≤ machine.room) }
+    ensures lane { IfOk result (λ machine. IsLane ty machine.room (slice_get machine.lanes.items 0)) }
+{
+    let room = LANE_BYTES / width(ty);
+    let mut lanes = Vec::new(alloc);
+    lanes.push(filled_lane(alloc, ty, 0, room)?)?;
     Ok(Machine {
         positions: 0,
-        room: 1,
+        room,
         tasks: Vec::new(alloc),
         reads: Vec::new(alloc),
         stores: Vec::new(alloc),
-        lanes: Vec::new(alloc),
+        lanes,
         spares: Spares::new(alloc, 0)?,
     })
 }

@@ -1,16 +1,20 @@
 //! A block that is ready to run.
-ghost use Rattle.std.specs.Prelude.{ℕ, ◌≡◌, ◌+◌, ◌*◌, ◌<◌, ◌≤◌, ◌^◌, IfOk, IsTrue, Option, false, get_or, length, pos, set, true};
+ghost use Rattle.std.specs.Prelude.{ℕ, ◌≡◌, ◌+◌, ◌*◌, ◌<◌, ◌≤◌, ◌^◌, IfOk, IsTrue, Option, Some, false, get_or, length, pos, set, true};
 ghost use Rattle.std.specs.List.{AllByRecursion, list_any};
 ghost use Rattle.arr_num.specs.Kinds.{is_reduction};
 ghost use Rattle.arr_ops.specs.declared.op.Op.{Op};
 ghost use Rattle.arr_ops.specs.Costs.{reads, total, writes};
 ghost use Rattle.arr_ops.specs.Fits.{fits};
-ghost use Rattle.arr_ops.specs.Memory.{Memory, Slot};
-ghost use Rattle.arr_store.specs.Cells.{width_at};
+ghost use Rattle.arr_ops.specs.Memory.{Memory, Slot, read};
+ghost use Rattle.arr_view.specs.Views.{elements, positions};
+ghost use Rattle.arr_picks.specs.Picks.{AllBelow};
+ghost use Rattle.arr_store.specs.Cells.{size_at, width_at};
+ghost use Rattle.arr_store.specs.Runs.{IsOf};
 ghost use Rattle.arr_store.specs.Slots.{slots_of};
 ghost use Rattle.arr_store.specs.Stored.{cells};
 ghost use Rattle.arr_strips.specs.Blocks.{block_positions, stores};
-ghost use Rattle.arr_strips.specs.Strips.{outline};
+ghost use Rattle.arr_strips.specs.Strips.{outline, put_at};
+ghost use Rattle.arr_shift.specs.Shifts.{is_shift};
 ghost use Rattle.arr_machine.specs.Kept.{StartsFolds, TypedKept, kept_from};
 ghost use Rattle.arr_machine.specs.Machines.{Walks};
 ghost use Rattle.arr_machine.specs.Ports.{IsThere};
@@ -19,16 +23,18 @@ ghost use Rattle.arr_ops.specs.Formed.{is_formed};
 ghost use Rattle.arr_ops.specs.Ops.{serial};
 ghost use Rattle.arr_ops.specs.Plans.{numbered, ops_of};
 ghost use Rattle.arr_ops.specs.Traffic.{contracted, scratch};
-ghost use Rattle.arr_contract.specs.Prepared.{IsBlockOf, may_share_block, strip};
+ghost use Rattle.arr_contract.specs.Prepared.{IsBlockOf, kept_numbers, may_share_block, slides, strip, writer};
 
 use crate::NoMemory;
 use crate::contracted::contracted;
 use crate::making::machine_for;
-use crate::scratch::{scratch, some_serial};
+use crate::scratch::some_serial;
+use crate::sliding::{kept_numbers, slides};
 use arr_cost::{block_ops, block_reads, block_views, block_writes};
 use arr_machine::{Machine, Task, begin_folds};
 use arr_ops::Op;
 use arr_sets::MOST;
+use arr_shift::shift;
 use arr_store::{Slots, Store};
 use arr_view::View;
 use std::alloc::Global;
@@ -37,6 +43,7 @@ use std::marker::Model;
 /// A block of a legal plan, with all that running it takes (docs/PLANS.md, "Running a block"). A contract sees the block's operations in
 /// list order and the numbers that it keeps as scratch. Beside these numbers a block without a serial operation has its lanes: one for each
 /// distinct view, one for each constant and one spare a type, each with room for as many numbers as a strip has positions (`strip`).
+/// A block with a serial operation has one lane of 2,048 bytes.
 #[derive(Drop)]
 pub struct Prepared {
     ops: Vec<Op>,
@@ -49,19 +56,20 @@ pub struct Prepared {
 }
 
 impl Model for Prepared {
-    ghost use Rattle.std.specs.Prelude.{◌≡◌, ◌≤◌, IsTrue, false, length};
+    ghost use Rattle.std.specs.Prelude.{◌≡◌, ◌≤◌, IsTrue, false, length, true};
     ghost use Rattle.std.specs.List.{list_any};
     ghost use Rattle.arr_ops.specs.Costs.{reads, writes};
     ghost use Rattle.arr_ops.specs.Ops.{serial};
-    ghost use Rattle.arr_ops.specs.Traffic.{contracted, scratch};
+    ghost use Rattle.arr_ops.specs.Traffic.{contracted};
     ghost use Rattle.arr_machine.specs.Machines.{IsMachineOf};
-    ghost use Rattle.arr_contract.specs.Prepared.{PreparedBlock, may_share_block, strip};
+    ghost use Rattle.arr_contract.specs.Making.{HasLane};
+    ghost use Rattle.arr_contract.specs.Prepared.{PreparedBlock, kept_numbers, may_share_block, strip};
 
     ghost Value = { PreparedBlock };
 
     ghost view = { λ p. record { ops = p.ops.items; numbers = p.numbers.items } };
 
-    ghost invariant = { λ p. (IsTrue (may_share_block p.ops.items)) × (length p.ops.items ≤ 256) × (p.read_views.items ≡ reads p.ops.items) × (p.written_views.items ≡ writes p.ops.items) × (p.contracted_bases.items ≡ contracted p.ops.items) × (p.is_serial ≡ list_any serial p.ops.items) × (length p.numbers.items ≡ scratch p.ops.items) × (p.is_serial ≡ false → IsMachineOf p.ops.items p.machine) × (p.is_serial ≡ false → p.machine.room ≡ strip p.ops.items) };
+    ghost invariant = { λ p. (IsTrue (may_share_block p.ops.items)) × (length p.ops.items ≤ 256) × (p.read_views.items ≡ reads p.ops.items) × (p.written_views.items ≡ writes p.ops.items) × (p.contracted_bases.items ≡ contracted p.ops.items) × (p.is_serial ≡ list_any serial p.ops.items) × (length p.numbers.items ≡ kept_numbers p.ops.items) × (p.is_serial ≡ false → IsMachineOf p.ops.items p.machine) × (p.is_serial ≡ false → p.machine.room ≡ strip p.ops.items) × (p.is_serial ≡ true → HasLane p.ops.items p.machine) };
 }
 
 impl Prepared {
@@ -78,7 +86,7 @@ impl Prepared {
         let written_views = block_writes(alloc, ops.as_slice())?;
         let contracted_bases = contracted(alloc, ops.as_slice())?;
         let is_serial = some_serial(alloc, ops.as_slice())?;
-        let count = scratch(alloc, ops.as_slice())?;
+        let count = kept_numbers(alloc, ops.as_slice(), is_serial)?;
         let numbers = vec![in alloc; 0; count]?;
         let views = block_views(alloc, ops.as_slice())?;
         let machine = machine_for(alloc, ops.as_slice(), views.as_slice(), is_serial)?;
@@ -98,7 +106,7 @@ impl Prepared {
         ensures value { result.now ≡ self.now.ops }
         ensures block { IsTrue (may_share_block self.now.ops) }
         ensures few { length self.now.ops ≤ MOST }
-        ensures kept { length self.now.numbers ≡ scratch self.now.ops }
+        ensures kept { length self.now.numbers ≡ kept_numbers self.now.ops }
     {
         self.ops.as_slice()
     }
@@ -134,9 +142,18 @@ impl Prepared {
         self.is_serial
     }
 
+    /// Whether the block has a serial operation that copies a view of one type some places on, and keeps its base (docs/PLANS.md,
+    /// "Running a block"). It takes no memory.
+    pub fn slides(&self) -> bool
+        ensures { result ≡ slides self.now.ops }
+    {
+        slides(self.ops.as_slice(), self.is_serial)
+    }
+
     /// How many numbers the block keeps as scratch (docs/PLANS.md, "Running a block"). It takes no memory.
     pub fn scratch(&self) -> u64
-        ensures value { result ≡ scratch self.now.ops }
+        ensures value { result ≡ kept_numbers self.now.ops }
+        ensures most { result ≤ scratch self.now.ops }
         ensures numbers { result ≡ length self.now.numbers }
     {
         self.numbers.len() as u64
@@ -237,5 +254,28 @@ impl Prepared {
             store,
             slots,
         );
+    }
+
+    /// Copies a view to one some places on in its base, for the first operation of the block that writes, one of its operations being serial:
+    /// each number goes to its place as it was before (docs/PLANS.md, "Running a block"). It takes no memory.
+    pub fn shift(&mut self, _op: &Op, out: &View, input: &View, store: &mut Store)
+        requires serial { list_any serial self.old.ops ≡ true }
+        requires writer { writer self.old.ops ≡ Some _op.now }
+        requires shift { is_shift out.now input.now ≡ true }
+        requires base { IsOf _op.now.to (cells store.old out.now.base) }
+        requires inside { AllBelow (size_at (cells store.old out.now.base)) (elements out.now) }
+        requires inside_input { AllBelow (size_at (cells store.old out.now.base)) (elements input.now) }
+        requires loads { store.old.loads < 2 ^ 61 }
+        requires saves { store.old.stores < 2 ^ 61 }
+        ensures same { self.new ≡ self.old }
+        ensures bases { cells store.new ≡ put_at out.now.base (elements out.now)
+            (read (cells store.old out.now.base) (elements input.now)) (cells store.old) }
+        ensures loads { store.new.loads ≡ store.old.loads + positions out.now.lengths * width_at (cells store.old out.now.base) }
+        ensures saves { store.new.stores
+            ≡ store.old.stores + positions out.now.lengths * width_at (cells store.old out.now.base) }
+        ensures made { store.new.made ≡ store.old.made }
+    {
+        let room = self.machine.room;
+        shift(out, input, store, &mut self.machine.lanes[0], room);
     }
 }

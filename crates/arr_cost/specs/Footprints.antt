@@ -1,5 +1,5 @@
 -- What blocks touch, class by class, as rows of 64 bits.
-use Rattle.std.specs.Prelude.{◌≡◌, ℕ, zero, suc, ◌<◌, ◌+◌, ◌/◌, ◌%◌, ◌==◌, nat_lt, List, Bool, ◌&&◌, ◌||◌, not, map, cond, get_or, length, Option, bit_or}
+use Rattle.std.specs.Prelude.{◌≡◌, ℕ, zero, suc, ◌<◌, ◌+◌, ◌*◌, ◌/◌, ◌%◌, ◌==◌, nat_lt, List, ◌++◌, Bool, ◌&&◌, ◌||◌, not, map, min, cond, get_or, length, Option, bit_or}
 use Rattle.std.specs.Int.{bit_at}
 use Rattle.std.specs.List.{flat_map, list_any}
 use Rattle.std.specs.Option.{option_to_list}
@@ -60,13 +60,40 @@ keeps_class rows c = keeps (row_for rows c) (c % 64)
 abbrev pub loses : Row → Row → ℕ → Bool
 loses a b i = (keeps a i || keeps b i) && not (keeps (join a b) i)
 
+-- ---- what rows tell
+
+-- a word has a bit for each of 64 classes, from a place on, that passes
+abbrev pub HasClasses : ℕ → ℕ → (ℕ → Bool) → Type 0
+HasClasses first word test = (i : ℕ) → i < 64 → has_bit word i ≡ test (first + i)
+
+-- the same for classes whose base passes
+abbrev pub HasBases : List ℕ → ℕ → ℕ → (ℕ → Bool) → Type 0
+HasBases bases first word test = (i : ℕ) → i < 64 → first + i < length bases → has_bit word i ≡ test (get_or bases (first + i) 0)
+
+-- the rows tell which classes are read, which are written, and of which the base is made or freed
+abbrev pub ReadsAre : List ℕ → List Row → (ℕ → Bool) → Type 0
+ReadsAre bases rows test = (c : ℕ) → c < length bases → has_bit (row_for rows c).reads (c % 64) ≡ test c
+
+abbrev pub WritesAre : List ℕ → List Row → (ℕ → Bool) → Type 0
+WritesAre bases rows test = (c : ℕ) → c < length bases → has_bit (row_for rows c).writes (c % 64) ≡ test c
+
+abbrev pub MakesAre : List ℕ → List Row → (ℕ → Bool) → Type 0
+MakesAre bases rows test = (c : ℕ) → c < length bases → has_bit (row_for rows c).makes (c % 64) ≡ test (get_or bases c 0)
+
+abbrev pub FreesAre : List ℕ → List Row → (ℕ → Bool) → Type 0
+FreesAre bases rows test = (c : ℕ) → c < length bases → has_bit (row_for rows c).frees (c % 64) ≡ test (get_or bases c 0)
+
 -- the rows tell of each class whether the block reads it, writes it, and makes or frees its base
 pub record IsFootprint (list : List Op) (block : List ℕ) (rows : List Row) : Type 0 where
   pub long : length rows ≡ length (bases_of list) / 64 + 1
-  pub reads : (c : ℕ) → c < length (bases_of list) → has_bit (row_for rows c).reads (c % 64) ≡ list_any (reads_class c) (touched_by (table_of list) block)
-  pub writes : (c : ℕ) → c < length (bases_of list) → has_bit (row_for rows c).writes (c % 64) ≡ list_any (writes_class c) (touched_by (table_of list) block)
-  pub makes : (c : ℕ) → c < length (bases_of list) → has_bit (row_for rows c).makes (c % 64) ≡ list_any (makes_number (get_or (bases_of list) c 0)) (touched_by (table_of list) block)
-  pub frees : (c : ℕ) → c < length (bases_of list) → has_bit (row_for rows c).frees (c % 64) ≡ list_any (frees_number (get_or (bases_of list) c 0)) (touched_by (table_of list) block)
+  pub reads : ReadsAre (bases_of list) rows (λ c. list_any (reads_class c) (touched_by (table_of list) block))
+  pub writes : WritesAre (bases_of list) rows (λ c. list_any (writes_class c) (touched_by (table_of list) block))
+  pub makes : MakesAre (bases_of list) rows (λ b. list_any (makes_number b) (touched_by (table_of list) block))
+  pub frees : FreesAre (bases_of list) rows (λ b. list_any (frees_number b) (touched_by (table_of list) block))
+
+-- the rows are a footprint of two blocks as one, wherever others are footprints of the two
+abbrev pub IsJoint : List Row → List Row → List Row → Type 0
+IsJoint a b rows = (list : List Op) (x y : List ℕ) → IsFootprint list x a → IsFootprint list y b → IsFootprint list (x ++ y) rows
 
 -- ---- weights
 
@@ -74,3 +101,9 @@ pub record IsFootprint (list : List Op) (block : List ℕ) (rows : List Row) : T
 unfoldable pub span : List ℕ → ℕ → ℕ → (ℕ → Bool) → ℕ
 span weights first zero p = 0
 span weights first (suc n) p = span weights first n p + cond (p n) (get_or weights (first + n) 0) 0
+
+-- what two blocks save as one: the classes that both touch outside themselves, and those that the two as one don't
+abbrev pub saved_by : List ℕ → List Row → List Row → ℕ
+saved_by weights a b =
+    span weights 0 (64 * min (length a) (length b)) (λ c. keeps_class a c && keeps_class b c)
+    + span weights 0 (64 * min (length a) (length b)) (λ c. loses (row_for a c) (row_for b c) (c % 64))

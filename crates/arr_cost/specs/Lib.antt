@@ -1,3 +1,4 @@
 pub mod Types
 pub mod Touches
 pub mod Footprints
+pub mod Blocks

@@ -1,5 +1,5 @@
 -- What operations touch, in numbers: a class is the place of the first view that is identical, a base that of the first view of it.
-use Rattle.std.specs.Prelude.{◌≡◌, ◌<◌, ℕ, ◌+◌, ◌*◌, ◌==◌, nat_lt, List, [], ◌∷◌, ◌++◌, Bool, false, ◌&&◌, not, map, cond, get_or, length, Option, None}
+use Rattle.std.specs.Prelude.{◌≡◌, ◌<◌, ℕ, ◌+◌, ◌*◌, ◌==◌, nat_lt, List, [], ◌∷◌, ◌++◌, Bool, false, ◌&&◌, ◌||◌, not, map, cond, get_or, length, Option, None}
 use Rattle.std.specs.List.{filter, flat_map, list_all, list_any, position_or_len}
 use Rattle.std.specs.Option.{option_map, option_to_list}
 use Rattle.arr_view.specs.Strided.{Strided}
@@ -73,10 +73,22 @@ abbrev pub marks : List Bool → ℕ
 marks [] = 0
 marks (b ∷ bs) = cond b 1 0 + marks bs
 
+-- what is touched weighs, each class once
+abbrev pub weight_once : List Touch → ℕ
+weight_once touched = total (λ (t : Touch). t.weight) (distinct same_class touched)
+
 -- the sum is over what is done, each class once, and its classes are those that are seen
 pub record Counted (done : List Touch) (seen : List Bool) (sum : ℕ) : Type 0 where
   pub each : (c : ℕ) → c < length seen → get_or seen c false ≡ list_any (λ (t : Touch). t.class == c) done
-  pub value : sum ≡ total (λ (t : Touch). t.weight) (distinct same_class done)
+  pub value : sum ≡ weight_once done
+
+-- another sum is over some more, and so are the classes that are seen then
+abbrev pub CountsMore : List Bool → ℕ → List Bool → ℕ → List Touch → Type 0
+CountsMore seen sum seen_then sum_then more = (done : List Touch) → Counted done seen sum → Counted (done ++ more) seen_then sum_then
+
+-- those that pass are marked too
+abbrev pub MarksMore : List Bool → List Bool → (ℕ → Bool) → Type 0
+MarksMore old new test = (b : ℕ) → b < length old → get_or new b false ≡ (get_or old b false || test b)
 
 -- marked are the bases that the test finds of a block
 pub record AreMarked (test : ℕ → Touches → Bool) (table : List Touches) (block : List ℕ) (marked : List Bool) : Type 0 where

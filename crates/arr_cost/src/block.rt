@@ -1,10 +1,10 @@
 //! The views that the operations of a block read and write outside it.
-ghost use Rattle.std.specs.Prelude.{◌≡◌, ◌++◌, IfOk, not};
-ghost use Rattle.std.specs.List.{filter, flat_map};
-ghost use Rattle.std.specs.Option.{option_to_list};
+ghost use Rattle.std.specs.Prelude.{◌≡◌, ◌++◌, IfOk};
+ghost use Rattle.std.specs.List.{flat_map};
 ghost use Rattle.arr_view.specs.Views.{identical};
 ghost use Rattle.arr_ops.specs.Costs.{all_reads, all_writes, distinct, reads, writes};
 ghost use Rattle.arr_ops.specs.Ops.{creates, freed_by, inputs, makes_base, outputs, view_of, views};
+ghost use Rattle.arr_cost.specs.Blocks.{not_created, not_freed};
 
 use crate::NoMemory;
 use crate::distinct::distinct;
@@ -35,7 +35,7 @@ fn frees(block: &[Op], base: u32) -> bool
 
 /// Takes up an operand that is a view of a base which the block does not create.
 fn push_read(found: &mut Vec<View>, operand: &Option<Operand>, block: &[Op]) -> Result<(), NoMemory>
-    ensures { IfOk result (λ done. found.new.items ≡ found.old.items ++ filter (λ v. not (creates block.now v.base)) (view_of operand.now)) }
+    ensures { IfOk result (λ done. found.new.items ≡ found.old.items ++ not_created block.now (view_of operand.now)) }
 {
     if let Some(Operand::Array(view)) = operand {
         if !creates(block, view.base()) {
@@ -46,7 +46,7 @@ fn push_read(found: &mut Vec<View>, operand: &Option<Operand>, block: &[Op]) -> 
 }
 
 fn push_reads(found: &mut Vec<View>, op: &Op, block: &[Op]) -> Result<(), NoMemory>
-    ensures { IfOk result (λ done. found.new.items ≡ found.old.items ++ filter (λ v. not (creates block.now v.base)) (inputs op.now)) }
+    ensures { IfOk result (λ done. found.new.items ≡ found.old.items ++ not_created block.now (inputs op.now)) }
 {
     push_read(found, &op.first, block)?;
     push_read(found, &op.second, block)
@@ -54,7 +54,7 @@ fn push_reads(found: &mut Vec<View>, op: &Op, block: &[Op]) -> Result<(), NoMemo
 
 /// Takes up the output, unless the block frees its base.
 fn push_write(found: &mut Vec<View>, op: &Op, block: &[Op]) -> Result<(), NoMemory>
-    ensures { IfOk result (λ done. found.new.items ≡ found.old.items ++ filter (λ v. not (freed_by block.now v.base)) (outputs op.now)) }
+    ensures { IfOk result (λ done. found.new.items ≡ found.old.items ++ not_freed block.now (outputs op.now)) }
 {
     if let Some(view) = &op.out {
         if !frees(block, view.base()) {

@@ -5,6 +5,7 @@ ghost use Rattle.arr_ops.specs.Costs.{block_cost, cost, reads, writes};
 ghost use Rattle.arr_ops.specs.Formed.{is_formed};
 ghost use Rattle.arr_ops.specs.Plans.{is_legal, numbered, ops_of};
 ghost use Rattle.arr_cost.specs.Footprints.{IsFootprint};
+ghost use Rattle.arr_cost.specs.Blocks.{Saves};
 
 use crate::NoMemory;
 use crate::block::{block_reads, block_writes};
@@ -163,7 +164,7 @@ impl Costs {
     /// What one block in place of two saves, in bytes: the costs of both are the cost of their union and the saving (docs/PLANS.md, "Cost").
     /// Want of memory is its one refusal.
     pub fn saving(&self, alloc: Global, a: &[u32], b: &[u32]) -> Result<u64, NoMemory>
-        ensures { IfOk result (λ saved. block_cost self.now (a.now ++ b.now) + saved ≡ block_cost self.now a.now + block_cost self.now b.now) }
+        ensures { IfOk result (λ saved. Saves self.now a.now b.now saved) }
     {
         let mut both = a.to_vec(alloc)?;
         both.extend_from_slice(b)?;
@@ -188,7 +189,7 @@ impl Costs {
     /// What one block in place of two saves, in bytes, told what each of the two touches: the same as `saving`, and quick
     /// (docs/PLANS.md, "Cost"). It takes no memory.
     pub fn joint_saving(&self, a: &Footprint, b: &Footprint) -> u64
-        ensures { (x y : List ℕ) → IsFootprint self.now x a.now → IsFootprint self.now y b.now → block_cost self.now (x ++ y) + result ≡ block_cost self.now x + block_cost self.now y }
+        ensures { (x y : List ℕ) → IsFootprint self.now x a.now → IsFootprint self.now y b.now → Saves self.now x y result }
     {
         a.saving(self.weights.as_slice(), b)
     }

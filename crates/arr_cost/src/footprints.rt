@@ -1,9 +1,8 @@
 //! What blocks touch, class by class, as rows of bits, and what two of them save as one.
-ghost use Rattle.std.specs.Prelude.{◌≡◌, ◌≤◌, ◌<◌, ◌+◌, ◌*◌, ◌/◌, ◌%◌, ◌++◌, ◌==◌, ◌&&◌, ◌||◌, ℕ, List, IfOk, cond, get_or, length, min};
+ghost use Rattle.std.specs.Prelude.{◌≡◌, ◌≤◌, ◌<◌, ◌+◌, ◌*◌, ◌/◌, ◌==◌, ◌&&◌, ◌||◌, ℕ, List, IfOk, cond, get_or, length};
 ghost use Rattle.std.specs.List.{All};
-ghost use Rattle.arr_ops.specs.declared.op.Op.{Op};
 ghost use Rattle.arr_cost.specs.Touches.{frees_number, makes_number};
-ghost use Rattle.arr_cost.specs.Footprints.{base_bit, blank, has_bit, is_class, join, keeps, keeps_class, loses, reads_class, row_for, span, writes_class, IsFootprint};
+ghost use Rattle.arr_cost.specs.Footprints.{FreesAre, HasBases, HasClasses, IsJoint, MakesAre, ReadsAre, WritesAre, base_bit, has_bit, is_class, join, keeps, loses, reads_class, saved_by, span, writes_class};
 
 use crate::NoMemory;
 use crate::touches::{Touch, Touches};
@@ -91,7 +90,7 @@ fn base_bits(bases: &[usize], first: usize, base: usize) -> u64
 /// The bits of the views of the base that an operation makes.
 fn made_bits(touches: &Touches, bases: &[usize], first: usize) -> u64
     requires { first ≤ 4096 }
-    ensures { (i : ℕ) → i < 64 → first + i < length bases.now → has_bit result i ≡ makes_number (get_or bases.now (first + i) 0) touches.now }
+    ensures { HasBases bases.now first result (λ b. makes_number b touches.now) }
 {
     if !touches.makes {
         return 0;
@@ -105,7 +104,7 @@ fn made_bits(touches: &Touches, bases: &[usize], first: usize) -> u64
 /// The bits of the views of the base that an operation frees.
 fn freed_bits(touches: &Touches, bases: &[usize], first: usize) -> u64
     requires { first ≤ 4096 }
-    ensures { (i : ℕ) → i < 64 → first + i < length bases.now → has_bit result i ≡ frees_number (get_or bases.now (first + i) 0) touches.now }
+    ensures { HasBases bases.now first result (λ b. frees_number b touches.now) }
 {
     match touches.frees {
         Some(base) => base_bits(bases, first, base),
@@ -116,10 +115,10 @@ fn freed_bits(touches: &Touches, bases: &[usize], first: usize) -> u64
 /// What an operation does with the 64 classes from the first on.
 fn row_of(touches: &Touches, bases: &[usize], first: usize) -> Row
     requires { first ≤ 4096 }
-    ensures reads { (i : ℕ) → i < 64 → has_bit result.reads i ≡ reads_class (first + i) touches.now }
-    ensures writes { (i : ℕ) → i < 64 → has_bit result.writes i ≡ writes_class (first + i) touches.now }
-    ensures makes { (i : ℕ) → i < 64 → first + i < length bases.now → has_bit result.makes i ≡ makes_number (get_or bases.now (first + i) 0) touches.now }
-    ensures frees { (i : ℕ) → i < 64 → first + i < length bases.now → has_bit result.frees i ≡ frees_number (get_or bases.now (first + i) 0) touches.now }
+    ensures reads { HasClasses first result.reads (λ c. reads_class c touches.now) }
+    ensures writes { HasClasses first result.writes (λ c. writes_class c touches.now) }
+    ensures makes { HasBases bases.now first result.makes (λ b. makes_number b touches.now) }
+    ensures frees { HasBases bases.now first result.frees (λ b. frees_number b touches.now) }
 {
     Row {
         reads: class_bit(&touches.first, first) | class_bit(&touches.second, first),
@@ -137,10 +136,10 @@ pub(crate) fn footprint_of(
 ) -> Result<Footprint, NoMemory>
     requires { length bases.now ≤ 768 }
     ensures long { IfOk result (λ rows. length rows ≡ length bases.now / 64 + 1) }
-    ensures reads { IfOk result (λ rows. (c : ℕ) → c < length bases.now → has_bit (row_for rows c).reads (c % 64) ≡ reads_class c touches.now) }
-    ensures writes { IfOk result (λ rows. (c : ℕ) → c < length bases.now → has_bit (row_for rows c).writes (c % 64) ≡ writes_class c touches.now) }
-    ensures makes { IfOk result (λ rows. (c : ℕ) → c < length bases.now → has_bit (row_for rows c).makes (c % 64) ≡ makes_number (get_or bases.now c 0) touches.now) }
-    ensures frees { IfOk result (λ rows. (c : ℕ) → c < length bases.now → has_bit (row_for rows c).frees (c % 64) ≡ frees_number (get_or bases.now c 0) touches.now) }
+    ensures reads { IfOk result (λ rows. ReadsAre bases.now rows (λ c. reads_class c touches.now)) }
+    ensures writes { IfOk result (λ rows. WritesAre bases.now rows (λ c. writes_class c touches.now)) }
+    ensures makes { IfOk result (λ rows. MakesAre bases.now rows (λ b. makes_number b touches.now)) }
+    ensures frees { IfOk result (λ rows. FreesAre bases.now rows (λ b. frees_number b touches.now)) }
 {
     let mut rows = Vec::new(alloc);
     for index in 0..bases.len() / 64 + 1 {
@@ -219,7 +218,7 @@ fn add_weights(weights: &[u64], first: usize, word: u64, sum: u64) -> u64
 fn saved_weight(weights: &[u64], a: &[Row], b: &[Row]) -> u64
     requires each { All (λ w. w ≤ 8388608) weights.now }
     requires few { length a.now ≤ 64 }
-    ensures { result ≡ span weights.now 0 (64 * min (length a.now) (length b.now)) (λ c. keeps_class a.now c && keeps_class b.now c) + span weights.now 0 (64 * min (length a.now) (length b.now)) (λ c. loses (row_for a.now c) (row_for b.now c) (c % 64)) }
+    ensures { result ≡ saved_by weights.now a.now b.now }
 {
     let mut sum = 0;
     for index in 0..a.len().min(b.len()) {
@@ -234,7 +233,7 @@ fn saved_weight(weights: &[u64], a: &[Row], b: &[Row]) -> u64
 impl Footprint {
     /// What two blocks of a list touch as one (docs/PLANS.md, "Cost"). Want of memory is its one refusal.
     pub fn joined(&self, alloc: Global, other: &Footprint) -> Result<Footprint, NoMemory>
-        ensures { IfOk result (λ f. (list : List Op) (x y : List ℕ) → IsFootprint list x self.now → IsFootprint list y other.now → IsFootprint list (x ++ y) f) }
+        ensures { IfOk result (λ rows. IsJoint self.now other.now rows) }
     {
         let mut rows = Vec::new(alloc);
         for index in 0..self.rows.len().min(other.rows.len()) {
@@ -246,7 +245,7 @@ impl Footprint {
     /// What the two blocks save as one, told what each class weighs.
     pub(crate) fn saving(&self, weights: &[u64], other: &Footprint) -> u64
         requires { All (λ w. w ≤ 8388608) weights.now }
-        ensures { result ≡ span weights.now 0 (64 * min (length self.now) (length other.now)) (λ c. keeps_class self.now c && keeps_class other.now c) + span weights.now 0 (64 * min (length self.now) (length other.now)) (λ c. loses (row_for self.now c) (row_for other.now c) (c % 64)) }
+        ensures { result ≡ saved_by weights.now self.now other.now }
     {
         saved_weight(weights, self.rows.as_slice(), other.rows.as_slice())
     }

@@ -1,10 +1,10 @@
 //! The sum over what a block touches, each class once.
-ghost use Rattle.std.specs.Prelude.{◌≡◌, ◌≤◌, ◌<◌, ◌+◌, ◌*◌, ◌++◌, ◌||◌, false, ℕ, List, IfOk, IsTrue, get_or, length};
+ghost use Rattle.std.specs.Prelude.{◌≡◌, ◌≤◌, ◌<◌, ◌+◌, ◌*◌, false, ℕ, List, IfOk, IsTrue, get_or, length};
 ghost use Rattle.std.specs.List.{All, flat_map, list_any};
-ghost use Rattle.arr_ops.specs.Costs.{block_cost, distinct, total};
+ghost use Rattle.arr_ops.specs.Costs.{block_cost};
 ghost use Rattle.arr_ops.specs.declared.op.Op.{Op};
 ghost use Rattle.arr_cost.specs.declared.touches.Touch.{Touch};
-ghost use Rattle.arr_cost.specs.Touches.{frees_number, is_below, kept, makes_number, marks, outside, same_class, table_of, touch_below, touched_by, untouched, Counted};
+ghost use Rattle.arr_cost.specs.Touches.{CountsMore, MarksMore, frees_number, is_below, kept, makes_number, marks, outside, table_of, touch_below, touched_by, untouched, weight_once};
 
 use crate::NoMemory;
 use crate::touches::{Touch, Touches};
@@ -30,7 +30,7 @@ pub(crate) fn touches_at(table: &[Touches], number: u32, bound: usize) -> &Touch
 fn mark_made(marked: &mut [bool], touches: &Touches)
     requires below { IsTrue (is_below (length marked.old) touches.now) }
     ensures long { length marked.new ≡ length marked.old }
-    ensures each { (b : ℕ) → b < length marked.old → get_or marked.new b false ≡ (get_or marked.old b false || makes_number b touches.now) }
+    ensures each { MarksMore marked.old marked.new (λ b. makes_number b touches.now) }
 {
     if touches.makes {
         if let Some(out) = &touches.out {
@@ -43,7 +43,7 @@ fn mark_made(marked: &mut [bool], touches: &Touches)
 fn mark_freed(marked: &mut [bool], touches: &Touches)
     requires below { IsTrue (is_below (length marked.old) touches.now) }
     ensures long { length marked.new ≡ length marked.old }
-    ensures each { (b : ℕ) → b < length marked.old → get_or marked.new b false ≡ (get_or marked.old b false || frees_number b touches.now) }
+    ensures each { MarksMore marked.old marked.new (λ b. frees_number b touches.now) }
 {
     if let Some(base) = touches.frees {
         marked[base] = true;
@@ -56,7 +56,7 @@ fn mark_all_made(marked: &mut [bool], table: &[Touches], block: &[u32])
     requires none { get_or table.now 0 untouched ≡ untouched }
     requires below { All (λ t. IsTrue (is_below (length marked.old) t)) table.now }
     ensures long { length marked.new ≡ length marked.old }
-    ensures each { (b : ℕ) → b < length marked.old → get_or marked.new b false ≡ (get_or marked.old b false || list_any (makes_number b) (touched_by table.now block.now)) }
+    ensures each { MarksMore marked.old marked.new (λ b. list_any (makes_number b) (touched_by table.now block.now)) }
 {
     for place in 0..block.len() {
         let touches = touches_at(table, block[place], marked.len());
@@ -70,7 +70,7 @@ fn mark_all_freed(marked: &mut [bool], table: &[Touches], block: &[u32])
     requires none { get_or table.now 0 untouched ≡ untouched }
     requires below { All (λ t. IsTrue (is_below (length marked.old) t)) table.now }
     ensures long { length marked.new ≡ length marked.old }
-    ensures each { (b : ℕ) → b < length marked.old → get_or marked.new b false ≡ (get_or marked.old b false || list_any (frees_number b) (touched_by table.now block.now)) }
+    ensures each { MarksMore marked.old marked.new (λ b. list_any (frees_number b) (touched_by table.now block.now)) }
 {
     for place in 0..block.len() {
         let touches = touches_at(table, block[place], marked.len());
@@ -86,7 +86,7 @@ fn count(seen: &mut [bool], marked: &[bool], touch: &Option<Touch>, sum: u64) ->
     requires small { sum ≤ marks seen.old * 8388608 }
     ensures long { length seen.new ≡ length seen.old }
     ensures small { result ≤ marks seen.new * 8388608 }
-    ensures counted { (done : List Touch) → Counted done seen.old sum → Counted (done ++ outside marked.now touch.now) seen.new result }
+    ensures counted { CountsMore seen.old sum seen.new result (outside marked.now touch.now) }
 {
     match touch {
         Some(touch) => {
@@ -112,7 +112,7 @@ fn count_all(seen: &mut [bool], made: &[bool], freed: &[bool], touches: &Touches
     requires small { sum ≤ marks seen.old * 8388608 }
     ensures long { length seen.new ≡ length seen.old }
     ensures small { result ≤ marks seen.new * 8388608 }
-    ensures counted { (done : List Touch) → Counted done seen.old sum → Counted (done ++ kept made.now freed.now touches.now) seen.new result }
+    ensures counted { CountsMore seen.old sum seen.new result (kept made.now freed.now touches.now) }
 {
     let first = count(seen, made, &touches.first, sum);
     let second = count(seen, made, &touches.second, first);
@@ -134,7 +134,7 @@ fn count_block(
     requires freed_wide { length freed.now ≡ length seen.old }
     requires few { length seen.old ≤ 771 }
     requires clear { (c : ℕ) → get_or seen.old c false ≡ false }
-    ensures value { result ≡ total (λ t. t.weight) (distinct same_class (flat_map (kept made.now freed.now) (touched_by table.now block.now))) }
+    ensures value { result ≡ weight_once (flat_map (kept made.now freed.now) (touched_by table.now block.now)) }
     ensures small { result ≤ 771 * 8388608 }
 {
     let mut sum = 0;

@@ -14,9 +14,6 @@ use Rattle.arr_greedy.specs.Blocks.{row_at}
 abbrev pub numbers_in : Block → List ℕ
 numbers_in b = b.numbers.items
 
-abbrev pub Printed : List Op → Block → Type 0
-Printed list b = IsFootprint list b.numbers.items b.print
-
 -- the footprint of two blocks is that of their union
 pub union_print : (list : List Op) (a b both : List ℕ) (rows : List Row) → both ≡ union (numbered list) a b → IsFootprint list (a ++ b) rows → IsFootprint list both rows
 union_print list a b both rows e f = subst (λ (ns : List ℕ). IsFootprint list ns rows) (sym e) (same_print list (a ++ b) (union (numbered list) a b) rows (sym (union_ops list a b)) f)

@@ -2,4 +2,6 @@ pub mod Ways
 pub mod Reach
 pub mod Fast
 pub mod Blocks
+pub mod Standing
 pub mod Start
+pub mod Tables

@@ -1,8 +1,9 @@
 //! Which two blocks are merged next.
-ghost use Rattle.std.specs.Prelude.{◌≡◌, ◌<◌, ◌*◌, length, List, ℕ, IsTrue, map, drop, cond, ◌&&◌, ◌≤◌, Some};
+ghost use Rattle.std.specs.Prelude.{◌≡◌, ◌<◌, ◌*◌, length, IsTrue, drop, ◌&&◌, ◌≤◌, Some};
 ghost use Rattle.std.specs.List.{All, list_any};
-ghost use Rattle.arr_greedy.specs.Fast.{amount, best_after, flag, found_below, may_merge, next_pair, row_pairs, saves_more};
+ghost use Rattle.arr_greedy.specs.Fast.{amount, flag, found_below, next_pair, saves_more};
 ghost use Rattle.arr_greedy.specs.Ways.{lies_between};
+ghost use Rattle.arr_greedy.specs.Tables.{best_in_row, better_pair};
 
 /// The flag of a row and a column.
 pub(crate) fn at(rows: &[bool], width: usize, row: usize, column: usize) -> bool
@@ -95,7 +96,7 @@ fn saves_more(
 
 /// The pair, if the two may be merged and save more than those found so far; else what was found. Blocks between two are looked for from a
 /// place on first.
-fn taken(
+fn better_pair(
     keys: &[usize],
     from: usize,
     fuses: &[bool],
@@ -114,11 +115,11 @@ fn taken(
     requires fuses_size { length fuses.now ≡ width * width }
     requires reaches_size { length reaches.now ≡ width * width }
     requires saved_size { length saved.now ≡ width * width }
-    ensures best { result ≡ cond (may_merge (flag fuses.now width) (flag reaches.now width) keys.now (left, right) && saves_more (amount saved.now width) found left right) (Some (left, right)) found }
+    ensures best { result ≡ better_pair fuses.now reaches.now saved.now width keys.now found left right }
     ensures below { IsTrue (found_below width result) }
 {
-    if at(fuses, width, left, right)
-        && saves_more(saved, width, found, left, right)
+    if saves_more(saved, width, found, left, right)
+        && at(fuses, width, left, right)
         && !some_lies_from(keys, from, reaches, width, left, right)
     {
         Some((left, right))
@@ -145,12 +146,12 @@ fn best_in_row(
     requires fuses_size { length fuses.now ≡ width * width }
     requires reaches_size { length reaches.now ≡ width * width }
     requires saved_size { length saved.now ≡ width * width }
-    ensures best { result ≡ best_after (λ p. amount saved.now width p.0 p.1) (may_merge (flag fuses.now width) (flag reaches.now width) keys.now) before (row_pairs left (drop from keys.now)) }
+    ensures best { result ≡ best_in_row fuses.now reaches.now saved.now width keys.now before left (drop from keys.now) }
     ensures below { IsTrue (found_below width result) }
 {
     let mut found = before;
     for place in from..keys.len() {
-        found = taken(
+        found = better_pair(
             keys,
             from,
             fuses,

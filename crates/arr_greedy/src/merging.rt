@@ -1,14 +1,14 @@
 //! The merges of `greedy`.
-ghost use Rattle.std.specs.Prelude.{◌≡◌, ◌<◌, ◌*◌, ◌+◌, ◌==◌, ◌&&◌, ◌||◌, ◌≢◌, ◌++◌, ◌∷◌, ◌^◌, [], length, ℕ, IfOk, IsTrue, cond, not, false, min, max, get_or, map};
+ghost use Rattle.std.specs.Prelude.{◌≡◌, ◌<◌, ◌*◌, ◌+◌, ◌==◌, ◌||◌, ◌≢◌, ◌^◌, [], length, ℕ, IfOk, IsTrue, not, false, get_or, map};
 ghost use Rattle.std.specs.List.{All, filter, range_with_len};
 ghost use Rattle.arr_view.specs.Views.{has};
-ghost use Rattle.arr_cost.specs.Footprints.{IsFootprint};
 ghost use Rattle.arr_ops.specs.Plans.{not_empty, numbered};
 ghost use Rattle.arr_ops.specs.Order.{least_of};
-ghost use Rattle.arr_heur.specs.Planners.{greedy_blocks, greedy_within, merge, numbers, saving, singles, union};
-ghost use Rattle.arr_greedy.specs.Blocks.{live, row_at, Keyed};
-ghost use Rattle.arr_greedy.specs.Fast.{amount, block_at, flag, fuses_after, Started, Told};
-ghost use Rattle.arr_greedy.specs.Ways.{reach_after};
+ghost use Rattle.arr_heur.specs.Planners.{greedy_within, union};
+ghost use Rattle.arr_greedy.specs.Blocks.{row_at, Keyed};
+ghost use Rattle.arr_greedy.specs.Fast.{amount, flag, fuses_after, Told};
+ghost use Rattle.arr_greedy.specs.Tables.{AreAmounts, AreFlags, ReachesAfter, with_cell};
+ghost use Rattle.arr_greedy.specs.Standing.{ArePrinted, IsPrinted, OthersStay, Priced, blocks_of, merged_at, rows_of, saving_at, union_at};
 
 use crate::NoMemory;
 use crate::choice::next_pair;
@@ -23,21 +23,32 @@ pub(crate) struct Block {
     pub(crate) print: Footprint,
 }
 
-/// The numbers of the block at a place, none where no block stands there.
-fn row_at(blocks: &[Block], place: usize) -> &[u32]
-    requires { place < length blocks.now }
-    ensures { result.now ≡ row_at (map (λ b. b.numbers.items) blocks.now) place }
-{
-    blocks[place].numbers.as_slice()
+impl Block {
+    /// This block and another as one.
+    fn union(&self, alloc: Global, costs: &Costs, other: &Block) -> Result<Block, NoMemory>
+        requires first { IsPrinted costs.now self.now }
+        requires second { IsPrinted costs.now other.now }
+        ensures numbers { IfOk result (λ block. block.numbers.items ≡ union (numbered costs.now) self.now.numbers.items other.now.numbers.items) }
+        ensures print { IfOk result (λ block. IsPrinted costs.now block) }
+    {
+        let numbers = union_of(
+            alloc,
+            self.numbers.as_slice(),
+            other.numbers.as_slice(),
+            costs.len(),
+        )?;
+        let print = self.print.joined(alloc, &other.print)?;
+        Ok(Block { numbers, print })
+    }
 }
 
 /// What one block in place of two saves.
 pub(crate) fn pair_saving(costs: &Costs, blocks: &[Block], left: usize, right: usize) -> u64
     requires left_in { left < length blocks.now }
     requires right_in { right < length blocks.now }
-    requires keyed { Keyed (map (λ b. b.numbers.items) blocks.now) }
-    requires printed { All (λ b. IsFootprint costs.now b.numbers.items b.print) blocks.now }
-    ensures { result ≡ saving costs.now (block_at left (live (map (λ b. b.numbers.items) blocks.now)), block_at right (live (map (λ b. b.numbers.items) blocks.now))) }
+    requires keyed { Keyed (rows_of blocks.now) }
+    requires printed { ArePrinted costs.now blocks.now }
+    ensures { result ≡ saving_at costs.now blocks.now left right }
 {
     costs.joint_saving(&blocks[left].print, &blocks[right].print)
 }
@@ -99,36 +110,12 @@ fn union_of(alloc: Global, left: &[u32], right: &[u32], count: u32) -> Result<Ve
 /// The place where no block stands.
 pub(crate) fn no_block(alloc: Global, costs: &Costs) -> Result<Block, NoMemory>
     ensures numbers { IfOk result (λ block. block.numbers.items ≡ []) }
-    ensures print { IfOk result (λ block. IsFootprint costs.now block.numbers.items block.print) }
+    ensures print { IfOk result (λ block. IsPrinted costs.now block) }
 {
     Ok(Block {
         numbers: Vec::new(alloc),
         print: costs.footprint(alloc, &[])?,
     })
-}
-
-/// Two blocks as one.
-fn joined(
-    alloc: Global,
-    costs: &Costs,
-    blocks: &[Block],
-    left: usize,
-    right: usize,
-) -> Result<Block, NoMemory>
-    requires left_in { left < length blocks.now }
-    requires right_in { right < length blocks.now }
-    requires printed { All (λ b. IsFootprint costs.now b.numbers.items b.print) blocks.now }
-    ensures numbers { IfOk result (λ block. block.numbers.items ≡ union (numbered costs.now) (row_at (map (λ b. b.numbers.items) blocks.now) left) (row_at (map (λ b. b.numbers.items) blocks.now) right)) }
-    ensures print { IfOk result (λ block. IsFootprint costs.now block.numbers.items block.print) }
-{
-    let numbers = union_of(
-        alloc,
-        row_at(blocks, left),
-        row_at(blocks, right),
-        costs.len(),
-    )?;
-    let print = blocks[left].print.joined(alloc, &blocks[right].print)?;
-    Ok(Block { numbers, print })
 }
 
 /// Makes one block of two, at the place of the first.
@@ -143,17 +130,17 @@ fn join(
     requires right_in { right < length blocks.old.items }
     requires apart { left ≢ right }
     requires some { 0 < left }
-    requires left_block { IsTrue (not_empty (row_at (map (λ b. b.numbers.items) blocks.old.items) left)) }
-    requires right_block { IsTrue (not_empty (row_at (map (λ b. b.numbers.items) blocks.old.items) right)) }
-    requires key { least_of (union (numbered costs.now) (row_at (map (λ b. b.numbers.items) blocks.old.items) left) (row_at (map (λ b. b.numbers.items) blocks.old.items) right)) ≡ left }
-    requires keyed { Keyed (map (λ b. b.numbers.items) blocks.old.items) }
-    requires printed { All (λ b. IsFootprint costs.now b.numbers.items b.print) blocks.old.items }
+    requires left_block { IsTrue (not_empty (row_at (rows_of blocks.old.items) left)) }
+    requires right_block { IsTrue (not_empty (row_at (rows_of blocks.old.items) right)) }
+    requires key { least_of (union_at costs.now blocks.old.items left right) ≡ left }
+    requires keyed { Keyed (rows_of blocks.old.items) }
+    requires printed { ArePrinted costs.now blocks.old.items }
     ensures long { IfOk result (λ done. length blocks.new.items ≡ length blocks.old.items) }
-    ensures keyed { IfOk result (λ done. Keyed (map (λ b. b.numbers.items) blocks.new.items)) }
-    ensures printed { IfOk result (λ done. All (λ b. IsFootprint costs.now b.numbers.items b.print) blocks.new.items) }
-    ensures blocks { IfOk result (λ done. live (map (λ b. b.numbers.items) blocks.new.items) ≡ merge (numbered costs.now) (block_at left (live (map (λ b. b.numbers.items) blocks.old.items))) (block_at right (live (map (λ b. b.numbers.items) blocks.old.items))) (live (map (λ b. b.numbers.items) blocks.old.items))) }
+    ensures keyed { IfOk result (λ done. Keyed (rows_of blocks.new.items)) }
+    ensures printed { IfOk result (λ done. ArePrinted costs.now blocks.new.items) }
+    ensures blocks { IfOk result (λ done. blocks_of blocks.new.items ≡ merged_at costs.now blocks.old.items left right) }
 {
-    let both = joined(alloc, costs, blocks.as_slice(), left, right)?;
+    let both = blocks[left].union(alloc, costs, &blocks[right])?;
     let none = no_block(alloc, costs)?;
     blocks[left] = both;
     blocks[right] = none;
@@ -173,7 +160,7 @@ fn put_amount(rows: &mut [u64], width: usize, row: usize, column: usize, value: 
     requires column_in { column < width }
     requires size { length rows.old ≡ width * width }
     ensures size { length rows.new ≡ width * width }
-    ensures put { (x y : ℕ) → x < width → y < width → amount rows.new width x y ≡ cond (x == row && y == column) value (amount rows.old width x y) }
+    ensures put { AreAmounts rows.new width (with_cell (amount rows.old width) row column value) }
 {
     rows[row * width + column] = value;
 }
@@ -189,13 +176,13 @@ fn price_row(
 )
     requires left_in { left < width }
     requires blocks_in { length blocks.now ≡ width }
-    requires keyed { Keyed (map (λ b. b.numbers.items) blocks.now) }
-    requires printed { All (λ b. IsFootprint costs.now b.numbers.items b.print) blocks.now }
+    requires keyed { Keyed (rows_of blocks.now) }
+    requires printed { ArePrinted costs.now blocks.now }
     requires keys_in { All (λ k. k < width) keys.now }
     requires size { length saved.old ≡ width * width }
     ensures size { length saved.new ≡ width * width }
-    ensures priced { (i : ℕ) → i < length keys.now → amount saved.new width (min (get_or keys.now i 0) left) (max (get_or keys.now i 0) left) ≡ saving costs.now (block_at (min (get_or keys.now i 0) left) (live (map (λ b. b.numbers.items) blocks.now)), block_at (max (get_or keys.now i 0) left) (live (map (λ b. b.numbers.items) blocks.now))) }
-    ensures others { (x y : ℕ) → x < width → y < width → x ≢ left → y ≢ left → amount saved.new width x y ≡ amount saved.old width x y }
+    ensures priced { Priced costs.now blocks.now saved.new width left keys.now }
+    ensures others { OthersStay saved.old saved.new width left }
 {
     for key in keys {
         let row = (*key).min(left);
@@ -222,29 +209,29 @@ fn one_turn(
     requires right_in { right < width }
     requires apart { left ≢ right }
     requires some { 0 < left }
-    requires left_block { IsTrue (not_empty (row_at (map (λ b. b.numbers.items) blocks.old.items) left)) }
-    requires right_block { IsTrue (not_empty (row_at (map (λ b. b.numbers.items) blocks.old.items) right)) }
-    requires key { least_of (union (numbered costs.now) (row_at (map (λ b. b.numbers.items) blocks.old.items) left) (row_at (map (λ b. b.numbers.items) blocks.old.items) right)) ≡ left }
-    requires keyed { Keyed (map (λ b. b.numbers.items) blocks.old.items) }
-    requires printed { All (λ b. IsFootprint costs.now b.numbers.items b.print) blocks.old.items }
+    requires left_block { IsTrue (not_empty (row_at (rows_of blocks.old.items) left)) }
+    requires right_block { IsTrue (not_empty (row_at (rows_of blocks.old.items) right)) }
+    requires key { least_of (union_at costs.now blocks.old.items left right) ≡ left }
+    requires keyed { Keyed (rows_of blocks.old.items) }
+    requires printed { ArePrinted costs.now blocks.old.items }
     requires blocks_in { length blocks.old.items ≡ width }
     requires keys_in { All (λ k. k < width) keys.old.items }
     requires fuses_size { length fuses.old ≡ width * width }
     requires reaches_size { length reaches.old ≡ width * width }
     requires saved_size { length saved.old ≡ width * width }
-    ensures blocks { IfOk result (λ done. live (map (λ b. b.numbers.items) blocks.new.items) ≡ merge (numbered costs.now) (block_at left (live (map (λ b. b.numbers.items) blocks.old.items))) (block_at right (live (map (λ b. b.numbers.items) blocks.old.items))) (live (map (λ b. b.numbers.items) blocks.old.items))) }
+    ensures blocks { IfOk result (λ done. blocks_of blocks.new.items ≡ merged_at costs.now blocks.old.items left right) }
     ensures blocks_in { IfOk result (λ done. length blocks.new.items ≡ width) }
-    ensures keyed { IfOk result (λ done. Keyed (map (λ b. b.numbers.items) blocks.new.items)) }
-    ensures printed { IfOk result (λ done. All (λ b. IsFootprint costs.now b.numbers.items b.print) blocks.new.items) }
+    ensures keyed { IfOk result (λ done. Keyed (rows_of blocks.new.items)) }
+    ensures printed { IfOk result (λ done. ArePrinted costs.now blocks.new.items) }
     ensures keys { IfOk result (λ done. keys.new.items ≡ filter (λ k. not (k == right)) keys.old.items) }
     ensures keys_in { IfOk result (λ done. All (λ k. k < width) keys.new.items) }
     ensures fuses_size { length fuses.new ≡ width * width }
     ensures reaches_size { length reaches.new ≡ width * width }
     ensures saved_size { IfOk result (λ done. length saved.new ≡ width * width) }
-    ensures fuses { (x y : ℕ) → x < width → y < width → flag fuses.new width x y ≡ fuses_after (flag fuses.old width) left right x y }
-    ensures reaches { IfOk result (λ done. (x y : ℕ) → x < width → y < width → x ≢ right → flag reaches.new width x y ≡ reach_after (λ k. k) (flag reaches.old width) left right x y) }
-    ensures priced { IfOk result (λ done. (i : ℕ) → i < length keys.new.items → amount saved.new width (min (get_or keys.new.items i 0) left) (max (get_or keys.new.items i 0) left) ≡ saving costs.now (block_at (min (get_or keys.new.items i 0) left) (live (map (λ b. b.numbers.items) blocks.new.items)), block_at (max (get_or keys.new.items i 0) left) (live (map (λ b. b.numbers.items) blocks.new.items)))) }
-    ensures others { IfOk result (λ done. (x y : ℕ) → x < width → y < width → x ≢ left → y ≢ left → amount saved.new width x y ≡ amount saved.old width x y) }
+    ensures fuses { AreFlags fuses.new width (fuses_after (flag fuses.old width) left right) }
+    ensures reaches { IfOk result (λ done. ReachesAfter reaches.old reaches.new width left right) }
+    ensures priced { IfOk result (λ done. Priced costs.now blocks.new.items saved.new width left keys.new.items) }
+    ensures others { IfOk result (λ done. OthersStay saved.old saved.new width left) }
 {
     fuse_rows(fuses, width, left, right);
     reach_rows(alloc, reaches, width, left, right)?;
@@ -273,16 +260,16 @@ pub(crate) fn merge_all(
     width: usize,
     count: usize,
 ) -> Result<(), NoMemory>
-    requires keyed { Keyed (map (λ b. b.numbers.items) blocks.old.items) }
-    requires printed { All (λ b. IsFootprint costs.now b.numbers.items b.print) blocks.old.items }
+    requires keyed { Keyed (rows_of blocks.old.items) }
+    requires printed { ArePrinted costs.now blocks.old.items }
     requires blocks_in { length blocks.old.items ≡ width }
     requires keys_in { All (λ k. k < width) keys.old.items }
     requires fuses_size { length fuses.old ≡ width * width }
     requires reaches_size { length reaches.old ≡ width * width }
     requires saved_size { length saved.old ≡ width * width }
-    requires keys { keys.old.items ≡ map least_of (live (map (λ b. b.numbers.items) blocks.old.items)) }
-    requires told { Told costs.now (live (map (λ b. b.numbers.items) blocks.old.items)) (flag fuses.old width) (flag reaches.old width) (amount saved.old width) }
-    ensures { IfOk result (λ done. live (map (λ b. b.numbers.items) blocks.new.items) ≡ greedy_within count costs.now (live (map (λ b. b.numbers.items) blocks.old.items))) }
+    requires keys { keys.old.items ≡ map least_of (blocks_of blocks.old.items) }
+    requires told { Told costs.now (blocks_of blocks.old.items) (flag fuses.old width) (flag reaches.old width) (amount saved.old width) }
+    ensures { IfOk result (λ done. blocks_of blocks.new.items ≡ greedy_within count costs.now (blocks_of blocks.old.items)) }
 {
     for turn in 0..count {
         match next_pair(keys.as_slice(), fuses, reaches, saved, width) {

@@ -1,10 +1,10 @@
 //! The plan of greedy.
-ghost use Rattle.std.specs.Prelude.{◌≡◌, ◌≤◌, ◌<◌, ◌+◌, ◌++◌, ◌∷◌, [], ℕ, IfOk, cond, length, map};
+ghost use Rattle.std.specs.Prelude.{◌≡◌, ◌≤◌, ◌<◌, ◌+◌, ◌++◌, ◌∷◌, [], IfOk, cond, map};
 ghost use Rattle.std.specs.List.{All, range_with_len};
-ghost use Rattle.arr_cost.specs.Footprints.{IsFootprint};
 ghost use Rattle.arr_ops.specs.Plans.{not_empty};
 ghost use Rattle.arr_heur.specs.Planners.{greedy_blocks, greedy_plan};
-ghost use Rattle.arr_greedy.specs.Blocks.{live};
+ghost use Rattle.arr_heur.specs.Partitions.{lists_of};
+ghost use Rattle.arr_greedy.specs.Standing.{ArePrinted, IsPrinted, blocks_of, rows_of};
 
 use crate::NoMemory;
 use crate::merging::{Block, merge_all, no_block};
@@ -19,7 +19,7 @@ use std::alloc::Global;
 /// The block of one operation.
 fn one_block(alloc: Global, costs: &Costs, number: u32) -> Result<Block, NoMemory>
     ensures numbers { IfOk result (λ block. block.numbers.items ≡ number ∷ []) }
-    ensures print { IfOk result (λ block. IsFootprint costs.now block.numbers.items block.print) }
+    ensures print { IfOk result (λ block. IsPrinted costs.now block) }
 {
     let mut numbers = Vec::new(alloc);
     numbers.push(number)?;
@@ -30,8 +30,8 @@ fn one_block(alloc: Global, costs: &Costs, number: u32) -> Result<Block, NoMemor
 /// The block of one operation at each number, and none at 0.
 fn single_blocks(alloc: Global, costs: &Costs, count: usize) -> Result<Vec<Block>, NoMemory>
     requires { count ≤ 256 }
-    ensures rows { IfOk result (λ blocks. map (λ b. b.numbers.items) blocks.items ≡ [] ∷ map (λ i. i ∷ []) (range_with_len 1 count)) }
-    ensures printed { IfOk result (λ blocks. All (λ b. IsFootprint costs.now b.numbers.items b.print) blocks.items) }
+    ensures rows { IfOk result (λ blocks. rows_of blocks.items ≡ [] ∷ map (λ i. i ∷ []) (range_with_len 1 count)) }
+    ensures printed { IfOk result (λ blocks. ArePrinted costs.now blocks.items) }
 {
     let mut blocks = Vec::new(alloc);
     blocks.push(no_block(alloc, costs)?)?;
@@ -55,7 +55,7 @@ fn all_numbers(alloc: Global, count: usize) -> Result<Vec<usize>, NoMemory>
 }
 
 fn push_live(kept: &mut Vec<Vec<u32>>, alloc: Global, row: &[u32]) -> Result<(), NoMemory>
-    ensures { IfOk result (λ done. map (λ b. b.items) kept.new.items ≡ map (λ b. b.items) kept.old.items ++ cond (not_empty row.now) (row.now ∷ []) []) }
+    ensures { IfOk result (λ done. lists_of kept.new.items ≡ lists_of kept.old.items ++ cond (not_empty row.now) (row.now ∷ []) []) }
 {
     if row.is_empty() {
         return Ok(());
@@ -66,7 +66,7 @@ fn push_live(kept: &mut Vec<Vec<u32>>, alloc: Global, row: &[u32]) -> Result<(),
 
 /// The blocks, without the places where none stands.
 fn live_rows(alloc: Global, blocks: &[Block]) -> Result<Vec<Vec<u32>>, NoMemory>
-    ensures { IfOk result (λ kept. map (λ b. b.items) kept.items ≡ live (map (λ b. b.numbers.items) blocks.now)) }
+    ensures { IfOk result (λ kept. lists_of kept.items ≡ blocks_of blocks.now) }
 {
     let mut kept = Vec::new(alloc);
     for block in blocks {
@@ -76,9 +76,9 @@ fn live_rows(alloc: Global, blocks: &[Block]) -> Result<Vec<Vec<u32>>, NoMemory>
 }
 
 /// The blocks of greedy, each two merged as long as that is possible.
-fn merged(alloc: Global, graph: &Graph, costs: &Costs) -> Result<Vec<Vec<u32>>, NoMemory>
+fn greedy_blocks(alloc: Global, graph: &Graph, costs: &Costs) -> Result<Vec<Vec<u32>>, NoMemory>
     requires { costs.now ≡ graph.now }
-    ensures { IfOk result (λ blocks. map (λ b. b.items) blocks.items ≡ greedy_blocks graph.now) }
+    ensures { IfOk result (λ blocks. lists_of blocks.items ≡ greedy_blocks graph.now) }
 {
     let count = graph.len() as usize;
     let width = count + 1;
@@ -110,7 +110,7 @@ pub fn greedy(alloc: Global, graph: &Graph, costs: &Costs) -> Result<Plan, NoMem
     requires { costs.now ≡ graph.now }
     ensures { IfOk result (λ plan. plan ≡ greedy_plan graph.now) }
 {
-    let blocks = merged(alloc, graph, costs)?;
+    let blocks = greedy_blocks(alloc, graph, costs)?;
     let plan = ordered(alloc, graph, blocks.as_slice())?;
     match plan {
         Some(plan) => Ok(plan),

@@ -1,9 +1,9 @@
 //! The rows of the blocks, and what a merge makes of them.
-ghost use Rattle.std.specs.Prelude.{◌≡◌, ◌<◌, ◌*◌, ◌==◌, ◌&&◌, ◌≢◌, ◌||◌, ◌++◌, ◌∷◌, [], length, ℕ, IfOk, cond, not};
+ghost use Rattle.std.specs.Prelude.{◌≡◌, ◌<◌, ◌*◌, ◌==◌, ◌&&◌, ◌≢◌, ◌||◌, ◌++◌, ◌∷◌, [], length, IfOk, cond};
 ghost use Rattle.std.specs.List.{All};
-ghost use Rattle.arr_view.specs.Views.{has};
 ghost use Rattle.arr_greedy.specs.Fast.{flag, fuses_after};
 ghost use Rattle.arr_greedy.specs.Ways.{gains, reach_after};
+ghost use Rattle.arr_greedy.specs.Tables.{AreFlags, AreGained, ReachesAfter, with_both, with_cell, with_reach, with_row};
 
 use crate::NoMemory;
 use crate::choice::at;
@@ -15,7 +15,7 @@ pub(crate) fn put(rows: &mut [bool], width: usize, row: usize, column: usize, va
     requires column_in { column < width }
     requires size { length rows.old ≡ width * width }
     ensures size { length rows.new ≡ width * width }
-    ensures put { (x y : ℕ) → x < width → y < width → flag rows.new width x y ≡ cond (x == row && y == column) value (flag rows.old width x y) }
+    ensures put { AreFlags rows.new width (with_cell (flag rows.old width) row column value) }
 {
     rows[row * width + column] = value;
 }
@@ -27,7 +27,7 @@ fn fuse_row(rows: &mut [bool], width: usize, left: usize, right: usize)
     requires apart { left ≢ right }
     requires size { length rows.old ≡ width * width }
     ensures size { length rows.new ≡ width * width }
-    ensures row { (x y : ℕ) → x < width → y < width → flag rows.new width x y ≡ cond (x == left) (flag rows.old width left y && flag rows.old width right y) (flag rows.old width x y) }
+    ensures row { let was = flag rows.old width in AreFlags rows.new width (with_row was left (λ x y. was left y && was right y)) }
 {
     for column in 0..width {
         let both = at(rows, width, left, column) && at(rows, width, right, column);
@@ -53,7 +53,7 @@ fn fuse_column(rows: &mut [bool], width: usize, left: usize, right: usize)
     requires apart { left ≢ right }
     requires size { length rows.old ≡ width * width }
     ensures size { length rows.new ≡ width * width }
-    ensures column { (x y : ℕ) → x < width → y < width → flag rows.new width x y ≡ cond (y == left && not (x == left)) (flag rows.old width x left && flag rows.old width x right) (flag rows.old width x y) }
+    ensures column { AreFlags rows.new width (with_both (flag rows.old width) left right) }
 {
     for row in 0..width {
         let both = both_fuse(rows, width, left, right, row);
@@ -68,7 +68,7 @@ pub(crate) fn fuse_rows(rows: &mut [bool], width: usize, left: usize, right: usi
     requires apart { left ≢ right }
     requires size { length rows.old ≡ width * width }
     ensures size { length rows.new ≡ width * width }
-    ensures rows { (x y : ℕ) → x < width → y < width → flag rows.new width x y ≡ fuses_after (flag rows.old width) left right x y }
+    ensures rows { AreFlags rows.new width (fuses_after (flag rows.old width) left right) }
 {
     fuse_row(rows, width, left, right);
     fuse_column(rows, width, left, right);
@@ -107,7 +107,7 @@ pub(crate) fn push_if<T: Copy>(inside: bool, found: &mut Vec<T>, number: T) -> R
 }
 
 /// The blocks that one of two reaches, and the first: what each block reaches that reaches one of the two.
-fn gained(
+fn gained_columns(
     alloc: Global,
     rows: &[bool],
     width: usize,
@@ -118,7 +118,7 @@ fn gained(
     requires right_in { right < width }
     requires size { length rows.now ≡ width * width }
     ensures below { IfOk result (λ found. All (λ y. y < width) found.items) }
-    ensures those { IfOk result (λ found. (y : ℕ) → y < width → has found.items y ≡ gains (flag rows.now width) left right y) }
+    ensures those { IfOk result (λ found. AreGained rows.now width left right found.items) }
 {
     let mut found = Vec::new(alloc);
     for column in 0..width {
@@ -143,9 +143,9 @@ fn reach_row(
     requires not_right { row ≢ right }
     requires size { length rows.old ≡ width * width }
     requires below { All (λ y. y < width) columns.now }
-    requires those { (y : ℕ) → y < width → has columns.now y ≡ gains (flag rows.old width) left right y }
+    requires those { AreGained rows.old width left right columns.now }
     ensures size { length rows.new ≡ width * width }
-    ensures row { (x y : ℕ) → x < width → y < width → flag rows.new width x y ≡ cond (x == row) (reach_after (λ k. k) (flag rows.old width) left right x y) (flag rows.old width x y) }
+    ensures row { let was = flag rows.old width in AreFlags rows.new width (with_row was row (reach_after (λ k. k) was left right)) }
 {
     let reaches = reaches_one(rows, width, left, right, row);
     if !reaches {
@@ -170,9 +170,9 @@ fn reach_other(
     requires row_in { row < width }
     requires size { length rows.old ≡ width * width }
     requires below { All (λ y. y < width) columns.now }
-    requires those { (y : ℕ) → y < width → has columns.now y ≡ gains (flag rows.old width) left right y }
+    requires those { AreGained rows.old width left right columns.now }
     ensures size { length rows.new ≡ width * width }
-    ensures row { (x y : ℕ) → x < width → y < width → flag rows.new width x y ≡ cond (x == row && not (row == left || row == right)) (reach_after (λ k. k) (flag rows.old width) left right x y) (flag rows.old width x y) }
+    ensures row { AreFlags rows.new width (with_reach (flag rows.old width) left right row) }
 {
     if row != left && row != right {
         reach_row(rows, width, left, right, row, columns);
@@ -186,7 +186,7 @@ fn reach_left(rows: &mut [bool], width: usize, left: usize, right: usize)
     requires apart { left ≢ right }
     requires size { length rows.old ≡ width * width }
     ensures size { length rows.new ≡ width * width }
-    ensures row { (x y : ℕ) → x < width → y < width → flag rows.new width x y ≡ cond (x == left) (reach_after (λ k. k) (flag rows.old width) left right x y) (flag rows.old width x y) }
+    ensures row { let was = flag rows.old width in AreFlags rows.new width (with_row was left (reach_after (λ k. k) was left right)) }
 {
     for column in 0..width {
         let reached = column != left
@@ -208,9 +208,9 @@ pub(crate) fn reach_rows(
     requires apart { left ≢ right }
     requires size { length rows.old ≡ width * width }
     ensures size { length rows.new ≡ width * width }
-    ensures rows { IfOk result (λ done. (x y : ℕ) → x < width → y < width → x ≢ right → flag rows.new width x y ≡ reach_after (λ k. k) (flag rows.old width) left right x y) }
+    ensures rows { IfOk result (λ done. ReachesAfter rows.old rows.new width left right) }
 {
-    let columns = gained(alloc, rows, width, left, right)?;
+    let columns = gained_columns(alloc, rows, width, left, right)?;
     for row in 0..width {
         reach_other(rows, width, left, right, row, columns.as_slice());
     }

@@ -1,6 +1,7 @@
 //! The rows of reach at the start.
-ghost use Rattle.std.specs.Prelude.{◌≡◌, ◌<◌, ◌≤◌, ◌*◌, ◌==◌, ◌&&◌, ◌||◌, ◌≢◌, length, ℕ, cond, true, false};
+ghost use Rattle.std.specs.Prelude.{◌≡◌, ◌<◌, ◌*◌, ◌==◌, ◌&&◌, ◌||◌, length, ℕ, false};
 ghost use Rattle.arr_greedy.specs.Fast.{by_step, flag};
+ghost use Rattle.arr_greedy.specs.Tables.{AreFlags, AreForward, with_row, with_step};
 
 use crate::choice::at;
 use crate::rows::put;
@@ -18,7 +19,7 @@ fn with_other(
     requires other_in { other < width }
     requires column_in { column < width }
     requires size { length rows.now ≡ width * width }
-    ensures { result ≡ (flag rows.now width row column || (take && (other == column || flag rows.now width other column))) }
+    ensures { result ≡ with_step (flag rows.now width) row other take column }
 {
     at(rows, width, row, column) || (take && (other == column || at(rows, width, other, column)))
 }
@@ -29,7 +30,7 @@ fn take_row(rows: &mut [bool], width: usize, row: usize, other: usize, take: boo
     requires other_in { other < width }
     requires size { length rows.old ≡ width * width }
     ensures size { length rows.new ≡ width * width }
-    ensures row { (x y : ℕ) → x < width → y < width → flag rows.new width x y ≡ cond (x == row) (flag rows.old width row y || (take && (other == y || flag rows.old width other y))) (flag rows.old width x y) }
+    ensures row { let was = flag rows.old width in AreFlags rows.new width (with_row was row (λ x y. with_step was row other take y)) }
 {
     if !take {
         return;
@@ -45,10 +46,10 @@ fn fill_row(deps: &[bool], rows: &mut [bool], width: usize, row: usize)
     requires row_in { row < width }
     requires deps_size { length deps.now ≡ width * width }
     requires size { length rows.old ≡ width * width }
-    requires forward { (x y : ℕ) → x < width → y < width → y ≤ x → flag deps.now width x y ≡ false }
+    requires forward { AreForward deps.now width }
     requires clear { (y : ℕ) → y < width → flag rows.old width row y ≡ false }
     ensures size { length rows.new ≡ width * width }
-    ensures row { (x y : ℕ) → x < width → y < width → flag rows.new width x y ≡ cond (x == row) (by_step (flag deps.now width) (flag rows.old width) width x y) (flag rows.old width x y) }
+    ensures row { let was = flag rows.old width in AreFlags rows.new width (with_row was row (by_step (flag deps.now width) was width)) }
 {
     for other in 0..width {
         let take = at(deps, width, row, other);
@@ -60,10 +61,10 @@ fn fill_row(deps: &[bool], rows: &mut [bool], width: usize, row: usize)
 pub(crate) fn fill_rows(deps: &[bool], rows: &mut [bool], width: usize)
     requires deps_size { length deps.now ≡ width * width }
     requires size { length rows.old ≡ width * width }
-    requires forward { (x y : ℕ) → x < width → y < width → y ≤ x → flag deps.now width x y ≡ false }
+    requires forward { AreForward deps.now width }
     requires clear { (x y : ℕ) → x < width → y < width → flag rows.old width x y ≡ false }
     ensures size { length rows.new ≡ width * width }
-    ensures filled { (x y : ℕ) → x < width → y < width → flag rows.new width x y ≡ by_step (flag deps.now width) (flag rows.new width) width x y }
+    ensures filled { AreFlags rows.new width (by_step (flag deps.now width) (flag rows.new width) width) }
 {
     for back in 0..width {
         fill_row(deps, rows, width, width - 1 - back);

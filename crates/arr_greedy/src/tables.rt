@@ -1,11 +1,10 @@
 //! The tables of one block an operation: rows and columns are numbers, and those of 0 are empty.
-ghost use Rattle.std.specs.Prelude.{◌≡◌, ◌≤◌, ◌<◌, ◌+◌, ◌*◌, ◌∷◌, [], ℕ, IfOk, length, map};
-ghost use Rattle.arr_heur.specs.Planners.{saving};
-ghost use Rattle.arr_cost.specs.Footprints.{IsFootprint};
-ghost use Rattle.arr_greedy.specs.Blocks.{live, Keyed};
-ghost use Rattle.arr_greedy.specs.Fast.{amount, block_at, flag};
-ghost use Rattle.std.specs.List.{All};
+ghost use Rattle.std.specs.Prelude.{◌≡◌, ◌≤◌, ◌<◌, ◌+◌, ◌*◌, ℕ, IfOk, length};
+ghost use Rattle.arr_greedy.specs.Blocks.{Keyed};
+ghost use Rattle.arr_greedy.specs.Fast.{amount};
 ghost use Rattle.arr_greedy.specs.Start.{deps_at, fuses_at};
+ghost use Rattle.arr_greedy.specs.Tables.{AreFlags};
+ghost use Rattle.arr_greedy.specs.Standing.{ArePrinted, rows_of, saving_at};
 
 use crate::NoMemory;
 use crate::merging::{Block, pair_saving};
@@ -43,9 +42,9 @@ fn deps_at(graph: &Graph, i: usize, j: usize) -> bool
 fn saved_at(costs: &Costs, blocks: &[Block], left: usize, right: usize) -> u64
     requires left_in { left < length blocks.now }
     requires right_in { right < length blocks.now }
-    requires keyed { Keyed (map (λ b. b.numbers.items) blocks.now) }
-    requires printed { All (λ b. IsFootprint costs.now b.numbers.items b.print) blocks.now }
-    ensures { left < right → result ≡ saving costs.now (block_at left (live (map (λ b. b.numbers.items) blocks.now)), block_at right (live (map (λ b. b.numbers.items) blocks.now))) }
+    requires keyed { Keyed (rows_of blocks.now) }
+    requires printed { ArePrinted costs.now blocks.now }
+    ensures { left < right → result ≡ saving_at costs.now blocks.now left right }
 {
     if right <= left {
         return 0;
@@ -58,7 +57,7 @@ pub(crate) fn fuse_table(alloc: Global, graph: &Graph, width: usize) -> Result<V
     requires width { width ≡ length graph.now + 1 }
     requires few { length graph.now ≤ 256 }
     ensures long { IfOk result (λ rows. length rows.items ≡ width * width) }
-    ensures flags { IfOk result (λ rows. (x y : ℕ) → x < width → y < width → flag rows.items width x y ≡ fuses_at graph.now x y) }
+    ensures flags { IfOk result (λ rows. AreFlags rows.items width (fuses_at graph.now)) }
 {
     let mut rows = Vec::new(alloc);
     for place in 0..width * width {
@@ -72,7 +71,7 @@ pub(crate) fn dep_table(alloc: Global, graph: &Graph, width: usize) -> Result<Ve
     requires width { width ≡ length graph.now + 1 }
     requires few { length graph.now ≤ 256 }
     ensures long { IfOk result (λ rows. length rows.items ≡ width * width) }
-    ensures flags { IfOk result (λ rows. (x y : ℕ) → x < width → y < width → flag rows.items width x y ≡ deps_at graph.now x y) }
+    ensures flags { IfOk result (λ rows. AreFlags rows.items width (deps_at graph.now)) }
 {
     let mut rows = Vec::new(alloc);
     for place in 0..width * width {
@@ -90,10 +89,10 @@ pub(crate) fn saved_table(
 ) -> Result<Vec<u64>, NoMemory>
     requires width { width ≡ length blocks.now }
     requires few { length blocks.now ≤ 257 }
-    requires keyed { Keyed (map (λ b. b.numbers.items) blocks.now) }
-    requires printed { All (λ b. IsFootprint costs.now b.numbers.items b.print) blocks.now }
+    requires keyed { Keyed (rows_of blocks.now) }
+    requires printed { ArePrinted costs.now blocks.now }
     ensures long { IfOk result (λ rows. length rows.items ≡ width * width) }
-    ensures saved { IfOk result (λ rows. (x y : ℕ) → x < y → y < width → amount rows.items width x y ≡ saving costs.now (block_at x (live (map (λ b. b.numbers.items) blocks.now)), block_at y (live (map (λ b. b.numbers.items) blocks.now)))) }
+    ensures saved { IfOk result (λ rows. (x y : ℕ) → x < y → y < width → amount rows.items width x y ≡ saving_at costs.now blocks.now x y) }
 {
     let mut rows = Vec::new(alloc);
     for place in 0..width * width {

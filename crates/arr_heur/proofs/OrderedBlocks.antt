@@ -17,7 +17,7 @@ use Rattle.arr_ops.proofs.Pairs.{Pairs, All_weaker, Pairs_weaker, Pairs_All, Pai
 use Rattle.arr_ops.proofs.Tests.{any_map}
 use Rattle.arr_ops.proofs.Legality.{Leading, any_found, any_there, in_has, leads_from, leads_to}
 use Rattle.arr_deps.specs.Graph.{leads_to as goes_to, op_at, op_in}
-use Rattle.arr_heur.specs.Partitions.{block_in, comes_first, waits}
+use Rattle.arr_heur.specs.Partitions.{NumbersTo, block_in, comes_first, waits}
 use Rattle.arr_heur.proofs.Merged.{rising}
 use Rattle.arr_heur.proofs.Stretches.{items_end}
 use Rattle.arr_heur.proofs.LinearPlan.{between_enumerated}
@@ -82,10 +82,7 @@ pairs_at {Q} k (op ∷ list) R h i j l m u f =
           | inr s ↦ g (n, o) (let e : n ≡ j = omega arith in e) a.0
         ]
 
-abbrev pub Numbers : ℕ → List ℕ → Type 0
-Numbers n block = All (λ i. (0 < i) × (i ≤ n)) block
-
-pub leads_is : (list : List Op) (a b : List ℕ) → Numbers (length list) a → Numbers (length list) b → list_any (λ f. list_any (goes_to list f) b) a ≡ leads (numbered list) a b
+pub leads_is : (list : List Op) (a b : List ℕ) → NumbersTo (length list) a → NumbersTo (length list) b → list_any (λ f. list_any (goes_to list f) b) a ≡ leads (numbered list) a b
 leads_is list a b ia ib =
     same_tests (list_any (λ f. list_any (goes_to list f) b) a) (leads (numbered list) a b)
     (λ e.

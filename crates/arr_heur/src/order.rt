@@ -1,11 +1,11 @@
 //! The order of a partition.
-ghost use Rattle.std.specs.Prelude.{◌≡◌, ◌≤◌, ◌<◌, ◌&&◌, ◌++◌, ◌∷◌, [], ℕ, Some, IfOk, IsTrue, cond, length, map, not};
-ghost use Rattle.std.specs.List.{All, filter, list_any, range_with_len};
+ghost use Rattle.std.specs.Prelude.{◌≡◌, ◌≤◌, ◌<◌, ◌&&◌, ◌++◌, ◌∷◌, [], Some, IfOk, IsTrue, cond, length, map, not};
+ghost use Rattle.std.specs.List.{All, list_any, range_with_len};
 ghost use Rattle.std.specs.Option.{option_map};
-ghost use Rattle.arr_ops.specs.Order.{first_block, is_ready, leads, least_of, ordered, same_block};
+ghost use Rattle.arr_ops.specs.Order.{leads, least_of, ordered, same_block};
 ghost use Rattle.arr_ops.specs.Plans.{ascends, numbered};
 ghost use Rattle.arr_deps.specs.Graph.{leads_to};
-ghost use Rattle.arr_heur.specs.Partitions.{block_in, comes_first, found_below, stands_first, waits};
+ghost use Rattle.arr_heur.specs.Partitions.{AllAscend, AllNumbersTo, NumbersTo, block_in, blocks_at, comes_first, earlier_ready, first_ready, found_below, lists_of, others, stands_first, waits};
 
 use crate::NoMemory;
 use arr_deps::Graph;
@@ -16,7 +16,7 @@ use std::alloc::Global;
 fn leads_some(graph: &Graph, f: u32, block: &[u32]) -> bool
     requires least { 0 < f }
     requires most { f ≤ length graph.now }
-    requires block { All (λ i. (0 < i) × (i ≤ length graph.now)) block.now }
+    requires block { NumbersTo (length graph.now) block.now }
     ensures { result ≡ list_any (leads_to graph.now f) block.now }
 {
     for g in block {
@@ -29,8 +29,8 @@ fn leads_some(graph: &Graph, f: u32, block: &[u32]) -> bool
 
 /// Whether some operation of a block leads some operation of another.
 fn leads_any(graph: &Graph, block: &[u32], other: &[u32]) -> bool
-    requires block { All (λ i. (0 < i) × (i ≤ length graph.now)) block.now }
-    requires other { All (λ i. (0 < i) × (i ≤ length graph.now)) other.now }
+    requires block { NumbersTo (length graph.now) block.now }
+    requires other { NumbersTo (length graph.now) other.now }
     ensures { result ≡ list_any (λ f. list_any (leads_to graph.now f) other.now) block.now }
 {
     for f in block {
@@ -42,8 +42,8 @@ fn leads_any(graph: &Graph, block: &[u32], other: &[u32]) -> bool
 }
 
 fn leads(graph: &Graph, block: &[u32], other: &[u32]) -> bool
-    requires block { All (λ i. (0 < i) × (i ≤ length graph.now)) block.now }
-    requires other { All (λ i. (0 < i) × (i ≤ length graph.now)) other.now }
+    requires block { NumbersTo (length graph.now) block.now }
+    requires other { NumbersTo (length graph.now) other.now }
     ensures { result ≡ leads (numbered graph.now) block.now other.now }
 {
     leads_any(graph, block, other)
@@ -63,7 +63,7 @@ fn least_of(block: &[u32]) -> u32
 /// The numbers of the block at a place.
 fn block_at(blocks: &[Vec<u32>], place: usize) -> &[u32]
     requires { place < length blocks.now }
-    ensures { result.now ≡ block_in (map (λ b. b.items) blocks.now) place }
+    ensures { result.now ≡ block_in (lists_of blocks.now) place }
 {
     blocks[place].as_slice()
 }
@@ -72,9 +72,9 @@ fn block_at(blocks: &[Vec<u32>], place: usize) -> &[u32]
 fn stands_first(graph: &Graph, blocks: &[Vec<u32>], other: usize, place: usize) -> bool
     requires other_in { other < length blocks.now }
     requires place_in { place < length blocks.now }
-    requires inside { (k : ℕ) → k < length blocks.now → All (λ i. (0 < i) × (i ≤ length graph.now)) (block_in (map (λ b. b.items) blocks.now) k) }
-    requires ascending { (k : ℕ) → k < length blocks.now → IsTrue (ascends (block_in (map (λ b. b.items) blocks.now) k)) }
-    ensures { result ≡ stands_first graph.now (map (λ b. b.items) blocks.now) other place }
+    requires inside { AllNumbersTo (length graph.now) blocks.now }
+    requires ascending { AllAscend blocks.now }
+    ensures { result ≡ stands_first graph.now (lists_of blocks.now) other place }
 {
     let before = block_at(blocks, other);
     let behind = block_at(blocks, place);
@@ -85,9 +85,9 @@ fn stands_first(graph: &Graph, blocks: &[Vec<u32>], other: usize, place: usize) 
 fn waits(graph: &Graph, blocks: &[Vec<u32>], left: &[usize], place: usize) -> bool
     requires left_in { All (λ k. k < length blocks.now) left.now }
     requires place_in { place < length blocks.now }
-    requires inside { (k : ℕ) → k < length blocks.now → All (λ i. (0 < i) × (i ≤ length graph.now)) (block_in (map (λ b. b.items) blocks.now) k) }
-    requires ascending { (k : ℕ) → k < length blocks.now → IsTrue (ascends (block_in (map (λ b. b.items) blocks.now) k)) }
-    ensures { result ≡ waits graph.now (map (λ b. b.items) blocks.now) left.now place }
+    requires inside { AllNumbersTo (length graph.now) blocks.now }
+    requires ascending { AllAscend blocks.now }
+    ensures { result ≡ waits graph.now (lists_of blocks.now) left.now place }
 {
     for other in left {
         if stands_first(graph, blocks, *other, place) {
@@ -101,8 +101,8 @@ fn waits(graph: &Graph, blocks: &[Vec<u32>], left: &[usize], place: usize) -> bo
 fn comes_first(blocks: &[Vec<u32>], found: Option<usize>, place: usize) -> bool
     requires found_in { IsTrue (found_below (length blocks.now) found) }
     requires place_in { place < length blocks.now }
-    requires ascending { (k : ℕ) → k < length blocks.now → IsTrue (ascends (block_in (map (λ b. b.items) blocks.now) k)) }
-    ensures { result ≡ comes_first (map (λ b. b.items) blocks.now) found place }
+    requires ascending { AllAscend blocks.now }
+    ensures { result ≡ comes_first (lists_of blocks.now) found place }
 {
     match found {
         None => true,
@@ -111,7 +111,7 @@ fn comes_first(blocks: &[Vec<u32>], found: Option<usize>, place: usize) -> bool
 }
 
 /// The block at a place if it comes before what was found and waits for none; else what was found.
-fn taken(
+fn earlier_ready(
     graph: &Graph,
     blocks: &[Vec<u32>],
     left: &[usize],
@@ -121,9 +121,9 @@ fn taken(
     requires left_in { All (λ k. k < length blocks.now) left.now }
     requires found_in { IsTrue (found_below (length blocks.now) found) }
     requires place_in { place < length blocks.now }
-    requires inside { (k : ℕ) → k < length blocks.now → All (λ i. (0 < i) × (i ≤ length graph.now)) (block_in (map (λ b. b.items) blocks.now) k) }
-    requires ascending { (k : ℕ) → k < length blocks.now → IsTrue (ascends (block_in (map (λ b. b.items) blocks.now) k)) }
-    ensures taken { result ≡ cond (comes_first (map (λ b. b.items) blocks.now) found place && not (waits graph.now (map (λ b. b.items) blocks.now) left.now place)) (Some place) found }
+    requires inside { AllNumbersTo (length graph.now) blocks.now }
+    requires ascending { AllAscend blocks.now }
+    ensures earlier { result ≡ earlier_ready graph.now (lists_of blocks.now) left.now found place }
     ensures below { IsTrue (found_below (length blocks.now) result) }
 {
     if comes_first(blocks, found, place) && !waits(graph, blocks, left, place) {
@@ -136,14 +136,14 @@ fn taken(
 /// Of the blocks left the first that is ready: the one with the least number.
 fn first_ready(graph: &Graph, blocks: &[Vec<u32>], left: &[usize]) -> Option<usize>
     requires left_in { All (λ k. k < length blocks.now) left.now }
-    requires inside { (k : ℕ) → k < length blocks.now → All (λ i. (0 < i) × (i ≤ length graph.now)) (block_in (map (λ b. b.items) blocks.now) k) }
-    requires ascending { (k : ℕ) → k < length blocks.now → IsTrue (ascends (block_in (map (λ b. b.items) blocks.now) k)) }
-    ensures first { option_map (block_in (map (λ b. b.items) blocks.now)) result ≡ first_block (is_ready (numbered graph.now) (map (block_in (map (λ b. b.items) blocks.now)) left.now)) (map (block_in (map (λ b. b.items) blocks.now)) left.now) }
+    requires inside { AllNumbersTo (length graph.now) blocks.now }
+    requires ascending { AllAscend blocks.now }
+    ensures first { option_map (block_in (lists_of blocks.now)) result ≡ first_ready graph.now (blocks_at blocks.now left.now) }
     ensures below { IsTrue (found_below (length blocks.now) result) }
 {
     let mut found = None;
     for place in left {
-        found = taken(graph, blocks, left, found, *place);
+        found = earlier_ready(graph, blocks, left, found, *place);
     }
     found
 }
@@ -173,8 +173,8 @@ fn push_if(inside: bool, kept: &mut Vec<usize>, place: usize) -> Result<(), NoMe
 fn differ(blocks: &[Vec<u32>], other: usize, place: usize) -> bool
     requires other_in { other < length blocks.now }
     requires place_in { place < length blocks.now }
-    requires ascending { (k : ℕ) → k < length blocks.now → IsTrue (ascends (block_in (map (λ b. b.items) blocks.now) k)) }
-    ensures { result ≡ not (same_block (block_in (map (λ b. b.items) blocks.now) other) (block_in (map (λ b. b.items) blocks.now) place)) }
+    requires ascending { AllAscend blocks.now }
+    ensures { result ≡ not (same_block (block_in (lists_of blocks.now) other) (block_in (lists_of blocks.now) place)) }
 {
     least_of(block_at(blocks, other)) != least_of(block_at(blocks, place))
 }
@@ -188,8 +188,8 @@ fn others(
 ) -> Result<Vec<usize>, NoMemory>
     requires left_in { All (λ k. k < length blocks.now) left.now }
     requires place_in { place < length blocks.now }
-    requires ascending { (k : ℕ) → k < length blocks.now → IsTrue (ascends (block_in (map (λ b. b.items) blocks.now) k)) }
-    ensures value { IfOk result (λ kept. kept.items ≡ filter (λ other. not (same_block (block_in (map (λ b. b.items) blocks.now) other) (block_in (map (λ b. b.items) blocks.now) place))) left.now) }
+    requires ascending { AllAscend blocks.now }
+    ensures value { IfOk result (λ kept. kept.items ≡ others (lists_of blocks.now) left.now place) }
     ensures below { IfOk result (λ kept. All (λ k. k < length blocks.now) kept.items) }
 {
     let mut kept = Vec::new(alloc);
@@ -202,8 +202,8 @@ fn others(
 /// The blocks at places, one after another, as a plan.
 fn plan_of(alloc: Global, blocks: &[Vec<u32>], places: &[usize]) -> Result<Plan, NoMemory>
     requires places_in { All (λ k. k < length blocks.now) places.now }
-    requires ascending { (k : ℕ) → k < length blocks.now → IsTrue (ascends (block_in (map (λ b. b.items) blocks.now) k)) }
-    ensures { IfOk result (λ plan. plan ≡ map (block_in (map (λ b. b.items) blocks.now)) places.now) }
+    requires ascending { AllAscend blocks.now }
+    ensures { IfOk result (λ plan. plan ≡ blocks_at blocks.now places.now) }
 {
     let mut copies = Vec::new(alloc);
     for place in places {
@@ -215,9 +215,9 @@ fn plan_of(alloc: Global, blocks: &[Vec<u32>], places: &[usize]) -> Result<Plan,
 /// The blocks of a partition in their order, where they have one (docs/PLANS.md, "The order of a partition"): each block has ascending
 /// numbers from 1 to the length of the list. Want of memory is its one refusal.
 pub fn ordered(alloc: Global, graph: &Graph, blocks: &[Vec<u32>]) -> Result<Option<Plan>, NoMemory>
-    requires inside { (k : ℕ) → k < length blocks.now → All (λ i. (0 < i) × (i ≤ length graph.now)) (block_in (map (λ b. b.items) blocks.now) k) }
-    requires ascending { (k : ℕ) → k < length blocks.now → IsTrue (ascends (block_in (map (λ b. b.items) blocks.now) k)) }
-    ensures { IfOk result (λ plan. plan ≡ ordered graph.now (map (λ b. b.items) blocks.now)) }
+    requires inside { AllNumbersTo (length graph.now) blocks.now }
+    requires ascending { AllAscend blocks.now }
+    ensures { IfOk result (λ plan. plan ≡ ordered graph.now (lists_of blocks.now)) }
 {
     let mut left = all_places(alloc, blocks.len())?;
     let mut placed = Vec::new(alloc);

@@ -16,3 +16,4 @@ pub mod Summed
 pub mod Walked
 pub mod Bounds
 pub mod Planned
+pub mod Moving

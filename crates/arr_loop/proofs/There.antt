@@ -33,7 +33,7 @@ use Rattle.arr_machine.proofs.Types.{types_there}
 
 -- ---- cells
 
-need_there : (c : Option Cell) (n : Need) → meets_need c n ≡ true → IsOf n.elem c × AllBelow (size_at c) n.places
+pub need_there : (c : Option Cell) (n : Need) → meets_need c n ≡ true → IsOf n.elem c × AllBelow (size_at c) n.places
 need_there None n h = absurd (false≢true h)
 need_there (Some c) n h = (
   sym (same_elem_is c.elem n.elem (both_left (same_elem c.elem n.elem) _ h)),

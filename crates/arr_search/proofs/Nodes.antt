@@ -1,9 +1,10 @@
 -- What becomes of a search at a node.
-use Rattle.std.proofs.Common.{◌≡◌, ℕ, zero, suc, ◌+◌, ◌-◌, ◌<◌, ◌≤◌, List, [], ◌∷◌, ◌++◌, length, Bool, true, false, cond, not, ◌&&◌, ◌⊎◌, inl, inr, Option, Some, None, refl, sym, ap, ◌∙◌, subst, arith, ⊎_elim, append-nil, min}
-use Rattle.std.specs.Prelude.{nat_lt, IsTrue, IfOk, MatchOption, Result, Ok, Err}
-use Rattle.std.specs.List.{list_all}
-use Rattle.std.proofs.lemmas.Bool.{and_parts, and_from, ltb-true}
-use Rattle.std.proofs.lemmas.List.Sums.{fold_push, sum_by-cons}
+use Rattle.std.proofs.Common.{◌≡◌, ℕ, zero, suc, ◌+◌, ◌-◌, ◌<◌, ◌≤◌, List, [], ◌∷◌, ◌++◌, length, Bool, true, false, cond, not, ◌&&◌, ◌⊎◌, inl, inr, Option, Some, None, refl, sym, ap, ◌∙◌, subst, arith, ⊎_elim, append-nil, append_assoc, length-append, ap₂, min}
+use Rattle.std.specs.Prelude.{nat_lt, IsTrue, IfOk, MatchOption, Result, Ok, Err, is_some}
+use Rattle.std.specs.List.{list_all, AllByRecursion}
+use Rattle.std.specs.Option.{option_to_list}
+use Rattle.std.proofs.lemmas.Bool.{and_parts, and_from}
+use Rattle.std.proofs.lemmas.List.Sums.{fold-append, sum_by-cons}
 use Rattle.std.proofs.lemmas.List.Folds.{list_all-append}
 use Rattle.arr_ops.specs.declared.op.Op.{Op}
 use Rattle.arr_ops.specs.Plans.{is_legal}
@@ -12,29 +13,32 @@ use Rattle.arr_law.specs.declared.charge.Charge.{Charge}
 use Rattle.arr_law.specs.declared.fact.Fact.{Fact}
 use Rattle.arr_law.specs.declared.fact.Fact.TheVariants.{Same, Apart}
 use Rattle.arr_law.specs.declared.record.Record.{Record}
-use Rattle.arr_law.specs.declared.record.Record.TheVariants.{Branch, Dead, Worth}
+use Rattle.arr_law.specs.declared.record.Record.TheVariants.{Step, Branch, Dead, Worth}
 use Rattle.arr_law.specs.Problem.{Problem, is_op}
 use Rattle.arr_law.specs.Facts.{Facts, with_fact, root_facts, facts_of}
-use Rattle.arr_law.specs.Floor.{IsClosed, Within, floor}
+use Rattle.arr_law.specs.Floor.{Follows, IsClosed, Within, floor}
+use Rattle.arr_law.specs.Rules.{rule_named}
 use Rattle.arr_law.specs.ProblemOf.{problem_of}
 use Rattle.arr_law.specs.Trees.{may_branch}
 use Rattle.arr_bound.specs.Worth.{IsLargeLeaf}
 use Rattle.arr_heur.specs.Planners.{greedy_plan}
 use Rattle.arr_state.specs.declared.outcome.Outcome.{Outcome}
 use Rattle.arr_state.specs.Known.{after, AreOps}
-use Rattle.arr_state.specs.States.{Saturated, Standing, known}
+use Rattle.arr_state.specs.States.{Standing, TookStep, known}
+use Rattle.arr_state.specs.Steps.{Steps, given, third}
 use Rattle.arr_state.specs.Went.{CanGoOn, IsClash}
-use Rattle.arr_state.proofs.Wents.{facts_after, after_grows}
+use Rattle.arr_state.proofs.Gives.{third_same, third_twice}
+use Rattle.arr_state.proofs.Wents.{facts_after, after_grows, steps-append}
 use Rattle.arr_search.specs.declared.progress.Next.{Next}
 use Rattle.arr_search.specs.declared.progress.Next.TheVariants.{Split, Close}
 use Rattle.arr_search.specs.declared.progress.Progress.{Progress}
 use Rattle.arr_search.specs.Counts.{is_open, open_pairs}
 use Rattle.arr_search.specs.Steps.{Pays}
-use Rattle.arr_search.specs.Running.{size, nodes, Running}
+use Rattle.arr_search.specs.Running.{IsAmple, IsReady, size, nodes, Running}
 use Rattle.arr_search.specs.Nodes.{IsDecided, IsNode, IsPlanned, IsSearch, StaysSearch, is_written, next_pending}
-use Rattle.arr_search.specs.Turns.{Advanced, Stands, Settled, Worked}
-use Rattle.arr_search.proofs.Counts.{open-le, with_within}
-use Rattle.arr_search.proofs.Stepped.{Stepped, stepped, none, symmetric-with, plain-with}
+use Rattle.arr_search.specs.Turns.{Advanced, Stands, Settled, Took, Worked, WorkedOn}
+use Rattle.arr_search.proofs.Counts.{open-le}
+use Rattle.arr_search.proofs.Stepped.{Stepped, stepped, none}
 use Rattle.arr_search.proofs.Running.{size-le, branched, ended, leafed, at_ready, fewer_same, fewer_apart, cheapened}
 use Rattle.arr_search.proofs.Lists.{plans_pay}
 use Rattle.arr_search.proofs.Written.{steps_written, leaf_written, dead_written, branch_written}
@@ -110,20 +114,38 @@ module _ (list : List Op) (budget : ℕ) where
       }
 
   -- after steps at a node whose floor is below the cost
-  pub stands : (trail trail' : List Fact) (pending : List Facts) (p p' : Progress) (outcome : Outcome) → IsSearch list budget (facts_of P trail ∷ pending) p → floor P (facts_of P trail) < p.cost
-      → p.units ≤ budget → Advanced P budget trail trail' p p' outcome → Stands list budget (facts_of P trail') pending p'
-  stands trail trail' pending p p' outcome s low within a =
+  pub stands : (trail trail' : List Fact) (pending : List Facts) (p p' : Progress) → IsSearch list budget (facts_of P trail ∷ pending) p → floor P (facts_of P trail) < p.cost → Took P budget trail trail' p p'
+      → Stands list budget (facts_of P trail') pending p'
+  stands trail trail' pending p p' s low t =
       record {
         before = p;
         first = facts_of P trail;
-        steps = a.saturated.steps;
-        gives = a.saturated.gives;
+        steps = t.steps;
+        gives = t.gives;
         search = s;
-        are_steps = a.saturated.are_steps;
-        facts_are = facts_after P trail trail' a.saturated.gives a.saturated.trail_is;
-        is = a.rest;
+        are_steps = t.are_steps;
+        facts_are = facts_after P trail trail' t.gives t.trail_is;
+        is = t.rest;
         low = low;
-        room = omega (arith, ap (λ (q : Progress). q.units) a.rest, a.saturated.within, within);
+        room = t.within;
+      }
+
+  -- and after further steps
+  pub stands_on : (trail trail' : List Fact) (pending : List Facts) (p p' : Progress) → Stands list budget (facts_of P trail) pending p → Took P budget trail trail' p p' → Stands list budget (facts_of P trail') pending p'
+  stands_on trail trail' pending p p' s t =
+      record {
+        before = s.before;
+        first = s.first;
+        steps = s.steps ++ t.steps;
+        gives = s.gives ++ t.gives;
+        search = s.search;
+        are_steps = steps-append P s.first s.steps t.steps s.gives t.gives s.are_steps (subst (λ F. Steps P F t.steps t.gives) s.facts_are t.are_steps);
+        facts_are = facts_after P trail trail' t.gives t.trail_is ∙ (ap (λ F. after F t.gives) s.facts_are ∙ sym (fold-append (λ facts x. with_fact x facts) s.first s.gives t.gives));
+        is = t.rest
+            ∙ (ap (λ (q : Progress). record q { tree = q.tree ++ t.steps; units = q.units + length t.steps }) s.is
+            ∙ ap₂ (λ (r : List Record) (u : ℕ). record s.before { tree = r; units = u }) (append_assoc s.before.tree s.steps t.steps) (let e : s.before.units + length s.steps + length t.steps ≡ s.before.units + length (s.steps ++ t.steps) = omega (arith, length-append s.steps t.steps) in e));
+        low = s.low;
+        room = t.within;
       }
 
   module _ (facts : Facts) (pending : List Facts) (p : Progress) (s : Stands list budget facts pending p) where
@@ -163,20 +185,35 @@ module _ (list : List Op) (budget : ℕ) where
         (subst (λ u. Running P G budget rest ((s.before.tree ++ s.steps) ++ last ∷ []) u least' cost') eu
         (subst (λ l. Running P G budget rest ((s.before.tree ++ s.steps) ++ last ∷ []) units l cost') el r))
 
-    pub branch : (f g : ℕ) → may_branch P facts f g ≡ true → IsClosed P facts → (value : ℕ) → floor P facts ≤ value → value < p.cost → p.units < budget
+    pub branch_by : (f g : ℕ) → may_branch P facts f g ≡ true → (IsAmple P budget → IsReady P facts) → (value : ℕ) → floor P facts ≤ value → value < p.cost → p.units < budget
         → IsSearch list budget (with_fact (Same f g) facts ∷ with_fact (Apart f g) facts ∷ pending) (record p { tree = p.tree ++ Branch f g ∷ []; units = p.units + 1 })
-    branch f g free closed value over low room =
+    branch_by f g free ready value over low room =
         let o = branch_parts P facts f g free in
         record {
           running = subst (λ c. Running P G budget (with_fact (Same f g) facts ∷ with_fact (Apart f g) facts ∷ pending) (p.tree ++ Branch f g ∷ []) (p.units + 1) p.least c) (sym cost_is)
               (carried (Branch f g) (s.before.units + length s.steps + 1) (p.units + 1) s.before.least p.least s.before.cost (with_fact (Same f g) facts ∷ with_fact (Apart f g) facts ∷ pending) (omega (arith, units_are)) (sym least_is)
-              (branched P G budget s.first facts pending s.before.tree s.steps s.before.units s.before.least s.before.cost s.search.running done f g o.0 o.1 o.3
-              (λ a. at_ready P G budget s.first facts pending s.before.tree s.steps s.before.units s.before.least s.before.cost s.search.running done closed) (omega (arith, over, low, cost_is)) (omega (arith, units_are, room))));
+              (branched P G budget s.first facts pending s.before.tree s.steps s.before.units s.before.least s.before.cost s.search.running done f g o.0 o.1 o.3 ready (omega (arith, over, low, cost_is)) (omega (arith, units_are, room))));
           planned = planned;
           written = one_written p.tree (Branch f g) written (branch_written list s.search.few facts f g free);
           formed = s.search.formed;
           few = s.search.few;
         }
+
+    -- where all is known
+    pub branch : (f g : ℕ) → may_branch P facts f g ≡ true → IsClosed P facts → (value : ℕ) → floor P facts ≤ value → value < p.cost → p.units < budget
+        → IsSearch list budget (with_fact (Same f g) facts ∷ with_fact (Apart f g) facts ∷ pending) (record p { tree = p.tree ++ Branch f g ∷ []; units = p.units + 1 })
+    branch f g free closed value over low room =
+        branch_by f g free (λ a. at_ready P G budget s.first facts pending s.before.tree s.steps s.before.units s.before.least s.before.cost s.search.running done closed) value over low room
+
+    -- behind the first branch all that the list gives is known, if there are units enough for it
+    pub ready_behind : 0 < s.before.units → IsAmple P budget → IsReady P facts
+    ready_behind later a = ⊎_elim all_ready none_ready (s.search.running.ready a)
+      where
+        all_ready : AllByRecursion (IsReady P) (s.first ∷ pending) → IsReady P facts
+        all_ready all other follows x e = done.grows x (all.0 other follows x e)
+
+        none_ready : (s.before.units ≡ 0) × (s.first ∷ pending ≡ root_facts P ∷ []) → IsReady P facts
+        none_ready z = absurd (omega (arith, z.0, later))
 
     pub dead : (f g : ℕ) → IsClash facts f g → is_op P f ≡ true → is_op P g ≡ true → IsSearch list budget pending (record p { tree = p.tree ++ Dead f g ∷ [] })
     dead f g clash of og =
@@ -259,35 +296,137 @@ module _ (list : List Op) (budget : ℕ) where
         fewer = λ pending. closes_fewer P (facts_of P trail) pending;
       }
 
-  pub worked_after : (trail trail' : List Fact) (p q p' : Progress) (outcome : Outcome) (next : Next) → Advanced P budget trail trail' p q outcome → floor P (facts_of P trail) < p.cost → p.units ≤ budget → Settled list budget (facts_of P trail') q p' next → Worked list budget trail trail' p p' next
-  worked_after trail trail' p q p' outcome next a low within s =
+  took_grows : (trail trail' : List Fact) (p q : Progress) → Took P budget trail trail' p q → Within (facts_of P trail) (facts_of P trail')
+  took_grows trail trail' p q t = subst (λ F. Within (facts_of P trail) F) (sym (facts_after P trail trail' t.gives t.trail_is)) (after_grows (facts_of P trail) t.gives)
+
+  took_fewer : (trail trail' : List Fact) (p q : Progress) (rest pending : List Facts) → Took P budget trail trail' p q → nodes P rest < nodes P (facts_of P trail' ∷ pending) → nodes P rest < nodes P (facts_of P trail ∷ pending)
+  took_fewer trail trail' p q rest pending t less = omega (arith, less, grown_fewer P (facts_of P trail) (facts_of P trail') pending (took_grows trail trail' p q t))
+
+  -- steps, and then the record that ends the node
+  pub worked_after : (trail trail' : List Fact) (p q p' : Progress) (next : Next) → Took P budget trail trail' p q → floor P (facts_of P trail) < p.cost → Settled list budget (facts_of P trail') q p' next → Worked list budget trail trail' p p' next
+  worked_after trail trail' p q p' next t low s =
       record {
-        gives = a.saturated.gives;
-        trail_is = a.saturated.trail_is;
+        gives = t.gives;
+        trail_is = t.trail_is;
         within = s.within;
         opens = s.opens;
-        keeps = λ pending h. s.keeps pending (stands trail trail' pending p q outcome h low within a);
-        fewer = λ pending.
-            let less : nodes P (next_pending (facts_of P trail') next pending) < nodes P (facts_of P trail' ∷ pending) = s.fewer pending in
-            omega (arith, less, grown_fewer P (facts_of P trail) (facts_of P trail') pending grows);
+        keeps = λ pending h. s.keeps pending (stands trail trail' pending p q h low t);
+        fewer = λ pending. took_fewer trail trail' p q (next_pending (facts_of P trail') next pending) pending t (s.fewer pending);
       }
-    where
-      grows : Within (facts_of P trail) (facts_of P trail')
-      grows = subst (λ F. Within (facts_of P trail) F) (sym (facts_after P trail trail' a.saturated.gives a.saturated.trail_is)) (after_grows (facts_of P trail) a.saturated.gives)
+
+  pub worked_on_after : (trail trail' : List Fact) (p q p' : Progress) (next : Next) → Took P budget trail trail' p q → Settled list budget (facts_of P trail') q p' next → WorkedOn list budget trail trail' p p' next
+  worked_on_after trail trail' p q p' next t s =
+      record {
+        gives = t.gives;
+        trail_is = t.trail_is;
+        within = s.within;
+        opens = s.opens;
+        keeps = λ pending h. s.keeps pending (stands_on trail trail' pending p q h t);
+        fewer = λ pending. took_fewer trail trail' p q (next_pending (facts_of P trail') next pending) pending t (s.fewer pending);
+      }
+
+  -- steps, and then a node that is worked off after further steps
+  pub worked_then : (trail mid trail' : List Fact) (p q p' : Progress) (next : Next) → Took P budget trail mid p q → floor P (facts_of P trail) < p.cost → WorkedOn list budget mid trail' q p' next → Worked list budget trail trail' p p' next
+  worked_then trail mid trail' p q p' next t low w =
+      record {
+        gives = t.gives ++ w.gives;
+        trail_is = w.trail_is ∙ (ap (λ ts. ts ++ w.gives) t.trail_is ∙ append_assoc trail t.gives w.gives);
+        within = w.within;
+        opens = w.opens;
+        keeps = λ pending h. w.keeps pending (stands trail mid pending p q h low t);
+        fewer = λ pending. took_fewer trail mid p q (next_pending (facts_of P trail') next pending) pending t (w.fewer pending);
+      }
+
+  -- steps, and then a branch behind the first
+  pub worked_branch : (trail trail' : List Fact) (p q p' : Progress) (f g : ℕ) → Took P budget trail trail' p q → floor P (facts_of P trail) < p.cost → (IsAmple P budget → 0 < p.units) → may_branch P (facts_of P trail') f g ≡ true
+      → (value : ℕ) → floor P (facts_of P trail') ≤ value → value < q.cost → q.units < budget → p' ≡ record q { tree = q.tree ++ Branch f g ∷ []; units = q.units + 1 } → Worked list budget trail trail' p p' (Split f g)
+  unfolding stands
+  worked_branch trail trail' p q p' f g t low some free value over less room e =
+      record {
+        gives = t.gives;
+        trail_is = t.trail_is;
+        within = omega (arith, ap (λ (r : Progress). r.units) e, room);
+        opens = free;
+        keeps = λ pending h.
+            let s : Stands list budget (facts_of P trail') pending q = stands trail trail' pending p q h low t in
+            subst (λ r. IsSearch list budget (with_fact (Same f g) (facts_of P trail') ∷ with_fact (Apart f g) (facts_of P trail') ∷ pending) r) (sym e)
+            (branch_by (facts_of P trail') pending q s f g free (λ a. ready_behind (facts_of P trail') pending q s (some a) a) value over less room);
+        fewer = λ pending. took_fewer trail trail' p q (with_fact (Same f g) (facts_of P trail') ∷ with_fact (Apart f g) (facts_of P trail') ∷ pending) pending t (splits_fewer P (facts_of P trail') pending f g free);
+      }
 
   -- what is known at a node after steps
-  pub grown_node : (trail trail' : List Fact) (p q : Progress) (outcome : Outcome) → Advanced P budget trail trail' p q outcome → IsNode P (facts_of P trail) → IsNode P (facts_of P trail')
-  grown_node trail trail' p q outcome a node =
+  pub grown_node : (trail trail' : List Fact) (p q : Progress) → Took P budget trail trail' p q → IsNode P (facts_of P trail) → IsNode P (facts_of P trail')
+  grown_node trail trail' p q a node =
       let F : Facts = facts_of P trail in
-      let done : Stepped P F (facts_of P trail') a.saturated.steps = subst (λ G. Stepped P F G a.saturated.steps) (sym (facts_after P trail trail' a.saturated.gives a.saturated.trail_is)) (stepped P F a.saturated.steps a.saturated.gives a.saturated.are_steps) in
+      let done : Stepped P F (facts_of P trail') a.steps = subst (λ G. Stepped P F G a.steps) (sym (facts_after P trail trail' a.gives a.trail_is)) (stepped P F a.steps a.gives a.are_steps) in
       record { roots = λ x e. done.grows x (node.roots x e); even = done.symmetric node.even; plain = done.plain node.plain }
 
-  pub advanced_units : (trail trail' : List Fact) (p q : Progress) (outcome : Outcome) → Advanced P budget trail trail' p q outcome → p.units ≤ budget → q.units ≤ budget
-  advanced_units trail trail' p q outcome a within = omega (arith, ap (λ (r : Progress). r.units) a.rest, a.saturated.within, within)
+  pub advanced_took : (trail trail' : List Fact) (p q : Progress) (outcome : Outcome) → Advanced P budget trail trail' p q outcome → p.units ≤ budget → Took P budget trail trail' p q
+  advanced_took trail trail' p q outcome a within =
+      record {
+        steps = a.saturated.steps;
+        gives = a.saturated.gives;
+        trail_is = a.saturated.trail_is;
+        are_steps = a.saturated.are_steps;
+        rest = a.rest;
+        within = omega (arith, ap (λ (r : Progress). r.units) a.rest, a.saturated.within, within);
+      }
 
   -- all units are spent where so many steps were taken as were left
   pub advanced_all : (trail trail' : List Fact) (p q : Progress) (outcome : Outcome) (a : Advanced P budget trail trail' p q outcome) → p.units ≤ budget → length a.saturated.steps ≡ budget - p.units → q.units ≡ budget
   advanced_all trail trail' p q outcome a within all = omega (arith, ap (λ (r : Progress). r.units) a.rest, all, within)
+
+-- ---- steps that are taken one by one
+
+pub took_none : (problem : Problem) (budget : ℕ) (trail : List Fact) (p : Progress) → p.units ≤ budget → Took problem budget trail trail p p
+took_none problem budget trail p within =
+    record {
+      steps = [];
+      gives = [];
+      trail_is = sym (append-nil trail);
+      are_steps = tt;
+      rest = ap₂ (λ (r : List Record) (u : ℕ). record p { tree = r; units = u }) (sym (append-nil p.tree)) (let e : p.units ≡ p.units + 0 = omega arith in e);
+      within = within;
+    }
+
+pub took_then : (problem : Problem) (less budget : ℕ) (trail mid trail' : List Fact) (p q r : Progress) → Took problem budget trail mid p q → Took problem less mid trail' q r → r.units ≤ budget → Took problem budget trail trail' p r
+took_then problem less budget trail mid trail' p q r t w within =
+    record {
+      steps = t.steps ++ w.steps;
+      gives = t.gives ++ w.gives;
+      trail_is = w.trail_is ∙ (ap (λ ts. ts ++ w.gives) t.trail_is ∙ append_assoc trail t.gives w.gives);
+      are_steps = steps-append problem (facts_of problem trail) t.steps w.steps t.gives w.gives t.are_steps (subst (λ F. Steps problem F w.steps w.gives) (facts_after problem trail mid t.gives t.trail_is) w.are_steps);
+      rest = w.rest
+          ∙ (ap (λ (q : Progress). record q { tree = q.tree ++ w.steps; units = q.units + length w.steps }) t.rest
+          ∙ ap₂ (λ (r : List Record) (u : ℕ). record p { tree = r; units = u }) (append_assoc p.tree t.steps w.steps) (let e : p.units + length t.steps + length w.steps ≡ p.units + length (t.steps ++ w.steps) = omega (arith, length-append t.steps w.steps) in e));
+      within = within;
+    }
+
+pub took_one : (problem : Problem) (rule f g h : ℕ) (trail trail' : List Fact) (p p' : Progress) (tree : List Record) (taken : Bool) → TookStep problem rule f g h trail trail' p.tree tree taken
+    → p' ≡ record p { tree = tree; units = p.units + cond taken 1 0 } → Took problem (p.units + 1) trail trail' p p'
+took_one problem rule f g h trail trail' p p' tree taken t e = go (given problem (facts_of problem trail) (rule_named problem 2 rule f g h)) refl
+  where
+    changed : (steps : List Record) (n : ℕ) → tree ≡ p.tree ++ steps → cond taken 1 0 ≡ n → p' ≡ record p { tree = p.tree ++ steps; units = p.units + n }
+    changed steps n a b = e ∙ ap₂ (λ (r : List Record) (u : ℕ). record p { tree = r; units = p.units + u }) a b
+
+    go : (o : Option Fact) → given problem (facts_of problem trail) (rule_named problem 2 rule f g h) ≡ o → Took problem (p.units + 1) trail trail' p p'
+    go None is =
+        let isnt : taken ≡ false = t.taken_is ∙ ap is_some is in
+        let tree_is : tree ≡ p.tree ++ [] = t.tree_is ∙ ap (λ b. p.tree ++ cond b (Step rule f g (third rule h) ∷ []) []) isnt in
+        let rest : p' ≡ record p { tree = p.tree ++ []; units = p.units + 0 } = changed [] 0 tree_is (ap (λ b. cond b 1 0) isnt) in
+        record { steps = []; gives = []; trail_is = t.trail_is ∙ ap (λ o. trail ++ option_to_list o) is; are_steps = tt; rest = rest; within = omega (arith, ap (λ (r : Progress). r.units) rest) }
+    go (Some x) is =
+        let done : taken ≡ true = t.taken_is ∙ ap is_some is in
+        let tree_is : tree ≡ p.tree ++ Step rule f g (third rule h) ∷ [] = t.tree_is ∙ ap (λ b. p.tree ++ cond b (Step rule f g (third rule h) ∷ []) []) done in
+        let rest : p' ≡ record p { tree = p.tree ++ Step rule f g (third rule h) ∷ []; units = p.units + 1 } = changed (Step rule f g (third rule h) ∷ []) 1 tree_is (ap (λ b. cond b 1 0) done) in
+        record {
+          steps = Step rule f g (third rule h) ∷ [];
+          gives = x ∷ [];
+          trail_is = t.trail_is ∙ ap (λ o. trail ++ option_to_list o) is;
+          are_steps = (ap (given problem (facts_of problem trail)) (third_same problem rule f g h) ∙ is, third_twice rule h, tt);
+          rest = rest;
+          within = omega (arith, ap (λ (r : Progress). r.units) rest);
+        }
 
 -- ---- a plan that costs less
 
@@ -316,45 +455,6 @@ leaf_at_state list views s value groups v e h =
 
 pub about_at : (list : List Op) (s : Standing) → s.list ≡ list → ((x : Fact) → IsTrue (known s x) → AreOps (problem_of s.list) x) → (x : Fact) → IsTrue (facts_of (problem_of list) s.trail x) → AreOps (problem_of list) x
 about_at list s e h = subst (λ (l : List Op). (x : Fact) → IsTrue (facts_of (problem_of l) s.trail x) → AreOps (problem_of l) x) e h
-
--- ---- a side that is tried
-
-pub tried_node : (problem : Problem) (facts : Facts) (f g : ℕ) (same : Bool) → IsNode problem facts → may_branch problem facts f g ≡ true → IsNode problem (with_fact (cond same (Same f g) (Apart f g)) facts)
-tried_node problem facts f g true node e =
-    record { roots = λ x k. with_within facts (Same f g) x (node.roots x k); even = symmetric-with facts (Same f g) node.even; plain = node.plain }
-tried_node problem facts f g false node e =
-    let p = branch_parts problem facts f g e in
-    record {
-      roots = λ x k. with_within facts (Apart f g) x (node.roots x k);
-      even = symmetric-with facts (Apart f g) node.even;
-      plain = plain-with facts f g (λ same. let l : f < g = ltb-true f g p.2 in absurd (omega arith)) node.plain;
-    }
-
-pub saturated_node : (problem : Problem) (budget : ℕ) (trail trail' : List Fact) (tree tree' : List Record) (outcome : Outcome) → Saturated problem budget trail trail' tree tree' outcome → IsNode problem (facts_of problem trail) → IsNode problem (facts_of problem trail')
-saturated_node problem budget trail trail' tree tree' outcome s node =
-    let F : Facts = facts_of problem trail in
-    let done : Stepped problem F (facts_of problem trail') s.steps = subst (λ G. Stepped problem F G s.steps) (sym (facts_after problem trail trail' s.gives s.trail_is)) (stepped problem F s.steps s.gives s.are_steps) in
-    record { roots = λ x e. done.grows x (node.roots x e); even = done.symmetric node.even; plain = done.plain node.plain }
-
--- what is known after steps
-pub closed_node : (list : List Op) (s after : Standing) (budget : ℕ) (tree tree' : List Record) (outcome : Outcome) → s.list ≡ list → after.list ≡ s.list
-    → Saturated (problem_of s.list) budget s.trail after.trail tree tree' outcome → IsNode (problem_of list) (known s) → IsNode (problem_of list) (known after)
-closed_node list s after budget tree tree' outcome here first steps node =
-    let P : Problem = problem_of list in
-    let steps' : Saturated P budget s.trail after.trail tree tree' outcome = subst (λ (l : List Op). Saturated (problem_of l) budget s.trail after.trail tree tree' outcome) here steps in
-    let began : IsNode P (facts_of P s.trail) = subst (IsNode P) (known_at list s here) node in
-    subst (IsNode P) (sym (known_at list after (first ∙ here))) (saturated_node P budget s.trail after.trail tree tree' outcome steps' began)
-
--- what is known after a decision and steps
-pub side_node : (list : List Op) (s : Standing) (now : Standing) (after : Standing) (f g budget : ℕ) (same : Bool) (tree tree' : List Record) (outcome : Outcome) → s.list ≡ list → now.list ≡ s.list → after.list ≡ now.list
-    → now.trail ≡ s.trail ++ cond same (Same f g) (Apart f g) ∷ [] → Saturated (problem_of now.list) budget now.trail after.trail tree tree' outcome → IsNode (problem_of list) (known s) → may_branch (problem_of list) (known s) f g ≡ true → IsNode (problem_of list) (known after)
-side_node list s now after f g budget same tree tree' outcome here first second decided steps node free =
-    let P : Problem = problem_of list in
-    let steps' : Saturated P budget now.trail after.trail tree tree' outcome = subst (λ (l : List Op). Saturated (problem_of l) budget now.trail after.trail tree tree' outcome) (first ∙ here) steps in
-    let began : IsNode P (facts_of P s.trail) = subst (IsNode P) (known_at list s here) node in
-    let open_ : may_branch P (facts_of P s.trail) f g ≡ true = subst (λ F. may_branch P F f g ≡ true) (known_at list s here) free in
-    let side : IsNode P (facts_of P now.trail) = subst (IsNode P) (sym (ap (facts_of P) decided ∙ fold_push (λ facts x. with_fact x facts) (root_facts P) s.trail (cond same (Same f g) (Apart f g)))) (tried_node P (facts_of P s.trail) f g same began open_) in
-    subst (IsNode P) (sym (known_at list after (second ∙ (first ∙ here)))) (saturated_node P budget now.trail after.trail tree tree' outcome steps' side)
 
 -- ---- a pair that is picked, or none
 

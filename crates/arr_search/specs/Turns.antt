@@ -25,6 +25,15 @@ pub record Advanced (problem : Problem) (budget : ℕ) (trail trail' : List Fact
   pub saturated : Saturated problem (budget - p.units) trail trail' p.tree p'.tree outcome
   pub rest : p' ≡ record p { tree = p.tree ++ saturated.steps; units = p.units + length saturated.steps }
 
+-- steps were appended and counted, within the budget, and nothing else changed
+pub record Took (problem : Problem) (budget : ℕ) (trail trail' : List Fact) (p p' : Progress) : Type 0 where
+  pub steps : List Record
+  pub gives : List Fact
+  pub trail_is : trail' ≡ trail ++ gives
+  pub are_steps : Steps problem (facts_of problem trail) steps gives
+  pub rest : p' ≡ record p { tree = p.tree ++ steps; units = p.units + length steps }
+  pub within : p'.units ≤ budget
+
 -- steps were taken at a node, where its floor was below the cost, and these facts are known now
 pub record Stands (list : List Op) (budget : ℕ) (facts : Facts) (pending : List Facts) (p : Progress) : Type 0 where
   pub before : Progress
@@ -49,6 +58,17 @@ pub record Settled (list : List Op) (budget : ℕ) (facts : Facts) (p p' : Progr
   pub opens : MaySplit (problem_of list) facts next
   pub keeps : (pending : List Facts) → Stands list budget facts pending p → IsSearch list budget (next_pending facts next pending) p'
   pub fewer : (pending : List Facts) → nodes (problem_of list) (next_pending facts next pending) < nodes (problem_of list) (facts ∷ pending)
+
+-- the node at which a search stands is worked off, after further steps
+pub record WorkedOn (list : List Op) (budget : ℕ) (trail trail' : List Fact) (p p' : Progress) (next : Next) : Type 0 where
+  pub gives : List Fact
+  pub trail_is : trail' ≡ trail ++ gives
+  pub within : p'.units ≤ budget
+  pub opens : MaySplit (problem_of list) (facts_of (problem_of list) trail') next
+  pub keeps : (pending : List Facts) → Stands list budget (facts_of (problem_of list) trail) pending p
+      → IsSearch list budget (next_pending (facts_of (problem_of list) trail') next pending) p'
+  pub fewer : (pending : List Facts)
+      → nodes (problem_of list) (next_pending (facts_of (problem_of list) trail') next pending) < nodes (problem_of list) (facts_of (problem_of list) trail ∷ pending)
 
 -- the first node that is to come is worked off
 pub record Worked (list : List Op) (budget : ℕ) (trail trail' : List Fact) (p p' : Progress) (next : Next) : Type 0 where

@@ -5,6 +5,7 @@ ghost use Rattle.arr_law.specs.ProblemOf.{problem_of};
 ghost use Rattle.arr_search.specs.Nodes.{IsSearch};
 
 use crate::NoMemory;
+use crate::draft::Draft;
 use crate::gains::Candidates;
 use crate::node::work;
 use crate::progress::{Next, Progress};
@@ -38,12 +39,14 @@ pub(crate) fn explore(
 {
     let mut waits: Vec<Waiting> = Vec::new(alloc);
     let mut candidates = Candidates::new(alloc);
+    let mut draft = Draft::new(alloc, graph)?;
     loop {
         match work(
             alloc,
             graph,
             views,
             state,
+            &mut draft,
             &mut candidates,
             progress,
             budget,
@@ -55,11 +58,13 @@ pub(crate) fn explore(
                     g,
                 })?;
                 state.decide(f, g, true)?;
+                draft.split(graph, f, g)?;
             }
             Next::Close => match waits.pop() {
                 Some(next) => {
                     state.undo_to(next.mark);
                     state.decide(next.f, next.g, false)?;
+                    draft.turn(graph, next.f, next.g)?;
                 }
                 None => return Ok(()),
             },

@@ -3,11 +3,12 @@ ghost use Rattle.std.specs.Prelude.{◌≡◌, ◌<◌, ◌≤◌, IfOk, IsTrue,
 ghost use Rattle.arr_law.specs.ProblemOf.{problem_of};
 ghost use Rattle.arr_law.specs.Trees.{may_branch};
 ghost use Rattle.arr_state.specs.States.{known};
-ghost use Rattle.arr_search.specs.Nodes.{IsNode, MayPick};
+ghost use Rattle.arr_search.specs.Nodes.{MayPick};
 
 use crate::NoMemory;
 use crate::choice::{choose, may_branch};
-use arr_bound::{Views, charges};
+use crate::estimate::estimate;
+use arr_bound::Views;
 use arr_deps::Graph;
 use arr_law::Records;
 use arr_ops::Op;
@@ -22,6 +23,9 @@ const TRIED_STEPS: u64 = 1_000_000;
 /// How many pairs are tried again at a node.
 const TRIES: u32 = 3;
 
+/// How many pairs are tried again at all nodes together.
+const ALL_TRIES: u32 = 8_000;
+
 /// A pair that a node may branch on, with what its two sides were worth when they were tried last, the lesser first.
 #[derive(Clone, Copy)]
 struct Candidate {
@@ -31,11 +35,12 @@ struct Candidate {
     high: u64,
 }
 
-/// The pairs that are tried.
+/// The pairs that are tried, whether they were looked for, and how many may be tried again.
 #[derive(Drop)]
 pub(crate) struct Candidates {
     pairs: Vec<Candidate>,
     found: bool,
+    left: u32,
 }
 
 fn is_view_of(view: Option<&View>, other: Option<&View>) -> bool {
@@ -85,7 +90,6 @@ fn side_worth(
 ) -> Result<u64, NoMemory>
     requires list { state.old.list ≡ graph.now }
     requires views { views.now ≡ graph.now }
-    requires node { IsNode (problem_of graph.now) (known state.old) }
     requires open { may_branch (problem_of graph.now) (known state.old) f g ≡ true }
     ensures list { state.new.list ≡ state.old.list }
     ensures kept { IfOk result (λ worth. state.new ≡ state.old) }
@@ -95,10 +99,7 @@ fn side_worth(
     let mut scratch = Records::new(alloc);
     let worth = match state.saturate(TRIED_STEPS, &mut scratch)? {
         Outcome::Contradiction(_, _) => cost,
-        _ => {
-            let (worth, _groups) = charges(alloc, views, state)?;
-            worth.min(cost)
-        }
+        _ => estimate(views, state, graph.len()).min(cost),
     };
     state.undo_to(mark);
     Ok(worth)
@@ -116,7 +117,6 @@ fn try_pair(
 ) -> Result<Candidate, NoMemory>
     requires list { state.old.list ≡ graph.now }
     requires views { views.now ≡ graph.now }
-    requires node { IsNode (problem_of graph.now) (known state.old) }
     requires open { may_branch (problem_of graph.now) (known state.old) f g ≡ true }
     ensures list { state.new.list ≡ state.old.list }
     ensures kept { IfOk result (λ pair. state.new ≡ state.old) }
@@ -144,7 +144,6 @@ fn join_pair(
 ) -> Result<(), NoMemory>
     requires list { state.old.list ≡ graph.now }
     requires views { views.now ≡ graph.now }
-    requires node { IsNode (problem_of graph.now) (known state.old) }
     requires least { 0 < f }
     requires most { g ≤ length graph.now }
     ensures list { state.new.list ≡ state.old.list }
@@ -168,7 +167,6 @@ fn join_pairs(
 ) -> Result<(), NoMemory>
     requires list { state.old.list ≡ graph.now }
     requires views { views.now ≡ graph.now }
-    requires node { IsNode (problem_of graph.now) (known state.old) }
     requires least { 0 < f }
     ensures list { state.new.list ≡ state.old.list }
     ensures kept { IfOk result (λ done. state.new ≡ state.old) }
@@ -205,6 +203,7 @@ impl Candidates {
         Candidates {
             pairs: Vec::new(alloc),
             found: false,
+            left: ALL_TRIES,
         }
     }
 
@@ -219,7 +218,6 @@ impl Candidates {
     ) -> Result<(), NoMemory>
         requires list { state.old.list ≡ graph.now }
         requires views { views.now ≡ graph.now }
-        requires node { IsNode (problem_of graph.now) (known state.old) }
         ensures list { state.new.list ≡ state.old.list }
         ensures kept { IfOk result (λ done. state.new ≡ state.old) }
     {
@@ -243,7 +241,6 @@ impl Candidates {
     ) -> Result<(), NoMemory>
         requires list { state.old.list ≡ graph.now }
         requires views { views.now ≡ graph.now }
-        requires node { IsNode (problem_of graph.now) (known state.old) }
         ensures list { state.new.list ≡ state.old.list }
         ensures kept { IfOk result (λ done. state.new ≡ state.old) }
     {
@@ -256,6 +253,10 @@ impl Candidates {
             if place == last {
                 return Ok(());
             }
+            if self.left == 0 {
+                return Ok(());
+            }
+            self.left -= 1;
             if !may_branch(graph, state, f, g) {
                 return Ok(());
             }
@@ -276,7 +277,6 @@ impl Candidates {
     ) -> Result<Option<(u32, u32)>, NoMemory>
         requires list { state.old.list ≡ graph.now }
         requires views { views.now ≡ graph.now }
-        requires node { IsNode (problem_of graph.now) (known state.old) }
         ensures list { state.new.list ≡ state.old.list }
         ensures kept { IfOk result (λ pair. state.new ≡ state.old) }
         ensures picks { IfOk result (MayPick (problem_of graph.now) (known state.old)) }

@@ -10,9 +10,11 @@
 //! (`legal_plan`), and what it costs (`improve`).
 //!
 //! The search goes depth first. It holds what is known at the node where it stands, the nodes that wait, the records so far, and the best plan
-//! (`explore`). At a node (`work`) it makes a leaf, takes steps, and ends the node by a leaf, or by a branch on the pair of which both sides gain
-//! most (`Candidates`), or, where all is decided, by a better plan (`plan_of`). Which pair and which further plans are tried, nothing depends on:
-//! they are policies.
+//! (`explore`). Beside them it keeps a draft (`Draft`): a second state, in which all is known that follows at the node, with how each fact came.
+//! At a node (`work`) it makes a leaf, takes the steps that the leaf of the draft rests on (`hint_at`, `trimmed`), and ends the node by a leaf, or
+//! by a branch on the pair of which both sides gain most (`Candidates`); where that does not end it, it takes all steps that follow (`work_whole`),
+//! and where all is decided it has a better plan (`plan_of`). Which steps are left out, which pair and which further plans are tried, nothing
+//! depends on: they are policies (`draft`, `trim`, `estimate`, `hints`, `gains`).
 //!
 //! The definitions, in `specs/`: `Best` (what `search` promises), `Found` (what its tree shows), `Steps`, `Counts` (open pairs, missing facts),
 //! `Running` (what is kept), `Laws`; `Nodes`, `Turns` and `Parts`, which private calls speak of. What a search may do at a node stands as laws
@@ -23,9 +25,12 @@ mod best;
 mod choice;
 mod decided;
 mod descent;
+mod draft;
+mod estimate;
 mod explore;
 mod found;
 mod gains;
+mod hints;
 mod laws;
 mod moves;
 mod node;
@@ -36,6 +41,7 @@ mod places;
 mod progress;
 mod rows;
 mod ties;
+mod trim;
 
 pub use best::search;
 pub use found::Found;

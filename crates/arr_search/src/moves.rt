@@ -1,17 +1,16 @@
 //! Plans that random moves find, before the first node.
 ghost use Rattle.std.specs.Prelude.{◌≡◌, IfOk};
-ghost use Rattle.arr_law.specs.ProblemOf.{problem_of};
-ghost use Rattle.arr_state.specs.States.{known};
-ghost use Rattle.arr_search.specs.Nodes.{IsNode, StaysSearch};
+ghost use Rattle.arr_search.specs.Nodes.{StaysSearch};
 
 use crate::NoMemory;
 use crate::best::improve;
 use crate::descent::descend;
+use crate::estimate::estimate;
 use crate::partition::Partition;
 use crate::parts::legal_plan;
 use crate::progress::Progress;
 use crate::ties::Ties;
-use arr_bound::{Views, charges};
+use arr_bound::Views;
 use arr_cost::Costs;
 use arr_deps::Graph;
 use arr_heur::linear;
@@ -32,14 +31,13 @@ fn closed_worth(
 ) -> Result<u64, NoMemory>
     requires list { state.old.list ≡ graph.now }
     requires views { views.now ≡ graph.now }
-    requires node { IsNode (problem_of graph.now) (known state.old) }
     ensures list { state.new.list ≡ state.old.list }
     ensures kept { IfOk result (λ worth. state.new ≡ state.old) }
 {
     let mark = state.mark();
     let mut scratch = Records::new(alloc);
     state.saturate(CLOSING_STEPS, &mut scratch)?;
-    let (worth, _groups) = charges(alloc, views, state)?;
+    let worth = estimate(views, state, graph.len());
     state.undo_to(mark);
     Ok(worth)
 }
@@ -78,7 +76,6 @@ pub(crate) fn try_moves(
     requires costs { costs.now ≡ graph.now }
     requires list { state.old.list ≡ graph.now }
     requires views { views.now ≡ graph.now }
-    requires node { IsNode (problem_of graph.now) (known state.old) }
     ensures list { state.new.list ≡ state.old.list }
     ensures kept { IfOk result (λ done. state.new ≡ state.old) }
     ensures search { IfOk result (λ done. StaysSearch graph.now progress.old progress.new) }

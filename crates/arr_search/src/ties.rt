@@ -90,7 +90,7 @@ fn users_of(graph: &Graph, base: u32) -> Row {
 }
 
 /// The number from 0 of an operation that is numbered from 1.
-fn from_zero(f: Option<u32>) -> Option<u8> {
+pub(crate) fn from_zero(f: Option<u32>) -> Option<u8> {
     match f {
         Some(number) if number > 0 && number <= 256 => Some((number - 1) as u8),
         _ => None,
@@ -127,6 +127,18 @@ fn touched_by(alloc: Global, class: &Class) -> Result<Touched, NoMemory> {
     })
 }
 
+/// The FREEs of a list.
+pub(crate) fn releases_of(alloc: Global, graph: &Graph) -> Result<Vec<Release>, NoMemory> {
+    let mut releases = Vec::new(alloc);
+    for f in 0..graph.len() {
+        if let Some(base) = graph.op(f + 1).frees {
+            let users = members(alloc, &users_of(graph, base))?;
+            releases.push(Release { op: f as u8, users })?;
+        }
+    }
+    Ok(releases)
+}
+
 impl Ties {
     /// Of a list with its classes of views.
     pub(crate) fn of(alloc: Global, graph: &Graph, views: &Views) -> Result<Ties, NoMemory> {
@@ -135,17 +147,15 @@ impl Ties {
             needs: [Row::EMPTY; 256],
             all: Row::EMPTY,
             frees: Row::EMPTY,
-            releases: Vec::new(alloc),
+            releases: releases_of(alloc, graph)?,
             classes: Vec::new(alloc),
         };
         for f in 0..graph.len() {
             ties.all.insert(f as u8);
             ties.fuses[f as usize] = fuses_of(graph, f + 1);
             ties.needs[f as usize] = needs_of(graph, f + 1);
-            if let Some(base) = graph.op(f + 1).frees {
+            if graph.op(f + 1).frees.is_some() {
                 ties.frees.insert(f as u8);
-                let users = members(alloc, &users_of(graph, base))?;
-                ties.releases.push(Release { op: f as u8, users })?;
             }
         }
         for class in views.classes() {

@@ -7,7 +7,7 @@ ghost use Rattle.arr_state.specs.Jobs.{AllFreesBelow, AreTouched, Covered, Frees
 ghost use Rattle.arr_state.specs.Kept.{IsKept};
 ghost use Rattle.arr_state.specs.Known.{HoldRoots};
 ghost use Rattle.arr_state.specs.Sieves.{IsSieve};
-ghost use Rattle.arr_state.specs.States.{IsEnded, Saturated};
+ghost use Rattle.arr_state.specs.States.{IsEnded, Saturated, TookStep};
 ghost use Rattle.arr_state.specs.Steps.{third};
 ghost use Rattle.arr_state.specs.Went.{Went};
 
@@ -65,6 +65,35 @@ fn attempt(
                 Some((x, y)) => Ok(Going::Clash(x, y)),
                 None => Ok(Going::On(left - 1)),
             }
+        }
+    }
+}
+
+/// Takes a step, if its rule applies.
+pub(crate) fn take_step(
+    ops: &[Op],
+    known: &mut Known,
+    tree: &mut Records,
+    rule: u8,
+    f: u32,
+    g: u32,
+    h: u32,
+) -> Result<bool, NoMemory>
+    requires kept { IsKept (problem_of ops.now) known.old }
+    ensures kept { IsKept (problem_of ops.now) known.new }
+    ensures does { IfOk result (λ taken. TookStep (problem_of ops.now) rule f g h known.old.facts.items known.new.facts.items tree.old tree.new taken) }
+{
+    match step(ops, known, rule, f, g, h) {
+        None => Ok(false),
+        Some(fact) => {
+            tree.push(Record::Step {
+                rule,
+                f,
+                g,
+                h: third_of(rule, h),
+            })?;
+            add(ops, known, fact)?;
+            Ok(true)
         }
     }
 }

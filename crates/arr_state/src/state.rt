@@ -6,14 +6,14 @@ ghost use Rattle.arr_law.specs.declared.fact.Fact.{Fact};
 ghost use Rattle.arr_law.specs.declared.fact.Fact.TheVariants.{Apart, Same};
 ghost use Rattle.arr_state.specs.Known.{AreOps};
 ghost use Rattle.arr_state.specs.Rows.{AreApart};
-ghost use Rattle.arr_state.specs.States.{Saturated, known};
+ghost use Rattle.arr_state.specs.States.{Saturated, TookStep, known};
 
 use crate::NoMemory;
 use crate::known::{Known, add, count_of, go_back, is_known};
 use crate::opening::{opened, ops_of, roots_of};
 use crate::outcome::Outcome;
 use crate::rows::{APART, row_start};
-use crate::saturation::saturate;
+use crate::saturation::{saturate, take_step};
 use arr_deps::Graph;
 use arr_law::{Fact, Records};
 use arr_ops::Op;
@@ -106,6 +106,22 @@ impl State {
             Fact::Apart(f, g)
         };
         add(self.ops.as_slice(), &mut self.held, fact)
+    }
+
+    /// Takes one step, if its rule applies: it is appended to the records of a tree, and what it gives becomes known. The answer is whether it was
+    /// taken; where it was not, all is as it was. Where memory is wanting, an error (docs/CERTIFICATES.md, "Derivation").
+    pub fn take_step(
+        &mut self,
+        rule: u8,
+        f: u32,
+        g: u32,
+        h: u32,
+        tree: &mut Records,
+    ) -> Result<bool, NoMemory>
+        ensures list { self.new.list ≡ self.old.list }
+        ensures does { IfOk result (λ taken. TookStep (problem_of self.old.list) rule f g h self.old.trail self.new.trail tree.old tree.new taken) }
+    {
+        take_step(self.ops.as_slice(), &mut self.held, tree, rule, f, g, h)
     }
 
     /// Appends steps to the records of a tree, at most `budget`, each of which applies and gives the next new fact, until no rule gives one

@@ -5,3 +5,4 @@ pub mod Lanes
 pub mod Parts
 pub mod Rests
 pub mod Parted
+pub mod Widths

@@ -1,3 +1,4 @@
 pub mod Gathering
 pub mod Scanning
 pub mod Kept
+pub mod Along

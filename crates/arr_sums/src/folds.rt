@@ -2,8 +2,8 @@ ghost use Rattle.std.specs.Prelude.{ℕ, ◌≡◌, ◌+◌, ◌<◌, ◌≤◌,
 ghost use Rattle.arr_num.specs.Kinds.{is_fold};
 ghost use Rattle.arr_num.specs.Numbers.{in_type, value};
 ghost use Rattle.arr_native.specs.Entries.{entry};
-ghost use Rattle.arr_strips.specs.Columns.{fold_upto};
 ghost use Rattle.arr_sums.specs.Kept.{AreOf, StepsEach, kept_at};
+ghost use Rattle.arr_sums.specs.Along.{AreFolds, entry_from, fold_from};
 
 use arr_lanes::Lane;
 use arr_num::Code;
@@ -37,7 +37,7 @@ pub(crate) fn fold_lane<T: Lane>(
     requires sums { at < length sums.old }
     requires typed { in_type T.elem (get_or sums.old at (pos 0)) ≡ true }
     requires source { from + count ≤ length source.now }
-    ensures { StepsEach T.elem (λ sum x. fold_upto (value code T.elem) sum (λ j. entry T.number source.now (from + j)) count) sums.old (λ j. pos 0) at 1 sums.new }
+    ensures { StepsEach T.elem (λ sum x. fold_from T.elem T.number code sum source.now from count) sums.old (λ j. pos 0) at 1 sums.new }
 {
     sums[at] = fold_run(code, source, from, count, T::narrow(sums[at])).widen();
 }
@@ -46,7 +46,7 @@ pub(crate) fn fold_lane<T: Lane>(
 fn fold_run<T: Lane>(code: Code, source: &[T], from: usize, count: usize, start: T) -> T
     requires code { IsTrue (is_fold code) }
     requires source { from + count ≤ length source.now }
-    ensures { T.number result ≡ fold_upto (value code T.elem) (T.number start) (λ j. entry T.number source.now (from + j)) count }
+    ensures { T.number result ≡ fold_from T.elem T.number code (T.number start) source.now from count }
 {
     table!(fold_with, code, source, from, count, start)
 }
@@ -64,7 +64,7 @@ pub(crate) fn fold_row<T: Lane>(
     requires sums { at + count ≤ length sums.old }
     requires typed { AreOf T.elem sums.old at count }
     requires source { from + count ≤ length source.now }
-    ensures { StepsEach T.elem (value code T.elem) sums.old (λ j. entry T.number source.now (from + j)) at count sums.new }
+    ensures { StepsEach T.elem (value code T.elem) sums.old (entry_from T.number source.now from) at count sums.new }
 {
     table!(row_with, code, sums, at, source, from, count)
 }
@@ -82,7 +82,7 @@ fn fold_with<T: Lane, F: Fn(T, T) -> T>(
     requires source { from + count ≤ length source.now }
     requires callable { F.IsAlwaysCallable f }
     requires values { (x y z : T) → F.post f x y z → T.number z ≡ value _code T.elem (T.number x) (T.number y) }
-    ensures { T.number result ≡ fold_upto (value _code T.elem) (T.number start) (λ j. entry T.number source.now (from + j)) count }
+    ensures { T.number result ≡ fold_from T.elem T.number _code (T.number start) source.now from count }
 {
     let mut sum = start;
     for i in 0..count {
@@ -107,7 +107,7 @@ fn row_with<T: Lane, F: Fn(T, T) -> T>(
     requires source { from + count ≤ length source.now }
     requires callable { F.IsAlwaysCallable f }
     requires values { (x y z : T) → F.post f x y z → T.number z ≡ value _code T.elem (T.number x) (T.number y) }
-    ensures { StepsEach T.elem (value _code T.elem) sums.old (λ j. entry T.number source.now (from + j)) at count sums.new }
+    ensures { StepsEach T.elem (value _code T.elem) sums.old (entry_from T.number source.now from) at count sums.new }
 {
     for i in 0..count {
         sums[at + i] = f(T::narrow(sums[at + i]), source[from + i]).widen();
@@ -127,8 +127,8 @@ pub(crate) fn scan_run<T: Lane>(
     requires out { from + count ≤ length out.old }
     requires source { from + count ≤ length source.now }
     ensures length { length out.new ≡ length out.old }
-    ensures last { T.number result ≡ fold_upto (value code T.elem) (T.number start) (λ k. entry T.number source.now (from + k)) count }
-    ensures each { (j : ℕ) → j < count → entry T.number out.new (from + j) ≡ fold_upto (value code T.elem) (T.number start) (λ k. entry T.number source.now (from + k)) (j + 1) }
+    ensures last { T.number result ≡ fold_from T.elem T.number code (T.number start) source.now from count }
+    ensures each { AreFolds T.elem T.number code (T.number start) source.now out.new from count }
     ensures before { (l : ℕ) → l < from → entry T.number out.new l ≡ entry T.number out.old l }
 {
     table!(scan_with, code, out, source, from, count, start)
@@ -150,8 +150,8 @@ fn scan_with<T: Lane, F: Fn(T, T) -> T>(
     requires callable { F.IsAlwaysCallable f }
     requires values { (x y z : T) → F.post f x y z → T.number z ≡ value _code T.elem (T.number x) (T.number y) }
     ensures length { length out.new ≡ length out.old }
-    ensures last { T.number result ≡ fold_upto (value _code T.elem) (T.number start) (λ k. entry T.number source.now (from + k)) count }
-    ensures each { (j : ℕ) → j < count → entry T.number out.new (from + j) ≡ fold_upto (value _code T.elem) (T.number start) (λ k. entry T.number source.now (from + k)) (j + 1) }
+    ensures last { T.number result ≡ fold_from T.elem T.number _code (T.number start) source.now from count }
+    ensures each { AreFolds T.elem T.number _code (T.number start) source.now out.new from count }
     ensures before { (l : ℕ) → l < from → entry T.number out.new l ≡ entry T.number out.old l }
 {
     let mut sum = start;

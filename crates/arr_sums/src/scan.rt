@@ -1,9 +1,9 @@
 ghost use Rattle.std.specs.Prelude.{ℕ, ◌≡◌, ◌+◌, ◌*◌, ◌%◌, ◌<◌, ◌≤◌, IsTrue, cond, get_or, length, pos, true};
 ghost use Rattle.arr_num.specs.Kinds.{is_fold};
-ghost use Rattle.arr_num.specs.Numbers.{in_type, value};
+ghost use Rattle.arr_num.specs.Numbers.{in_type};
 ghost use Rattle.arr_native.specs.Entries.{entry};
-ghost use Rattle.arr_sums.specs.Kept.{AreOf, ChangesWithin, StepsEach, kept_at};
-ghost use Rattle.arr_sums.specs.Scanning.{ScansOn};
+ghost use Rattle.arr_sums.specs.Kept.{AreOf, ChangesWithin};
+ghost use Rattle.arr_sums.specs.Along.{ScansAlong, StepsRow, width_of};
 
 use crate::axis::Axis;
 use crate::folds::{copy, fold_row, refill, scan_run};
@@ -37,49 +37,56 @@ pub fn scan_strip<T: Lane>(
     requires short { position + count ≤ MOST_ELEMENTS }
     ensures out { length out.new ≡ length out.old }
     ensures carries { ChangesWithin T.elem at axis.inner carries.old carries.new }
-    ensures scanned { ScansOn (value code T.elem) (T.number start) axis.length axis.inner (kept_at carries.old at) (kept_at carries.new at) (entry T.number out.new) (entry T.number source.now) position 0 count }
+    ensures scanned { ScansAlong T.elem T.number code start axis at carries.old carries.new out.new source.now position 0 count }
 {
-    if axis.inner == 1 {
-        scan_lanes(code, out, carries, at, source, start, position, count, axis);
-    } else {
-        scan_rows(code, out, carries, at, source, start, position, count, axis);
+    let mut done = 0;
+    while done < count {
+        let place = position + done;
+        let run = axis.run_from(place, count - done);
+        scan_part(
+            code, out, carries, at, source, start, done, place, run, axis,
+        );
+        done += run;
     }
 }
 
-/// Scans a strip where the positions of a lane lie side by side.
-fn scan_lanes<T: Lane>(
+/// Scans positions that lie side by side, from one on.
+#[inline(always)]
+fn scan_part<T: Lane>(
     code: Code,
     out: &mut [T],
     carries: &mut [i128],
     at: usize,
     source: &[T],
     start: T,
-    position: usize,
-    count: usize,
+    from: usize,
+    place: usize,
+    run: usize,
     axis: Axis,
 )
     requires code { IsTrue (is_fold code) }
-    requires out { count ≤ length out.old }
-    requires source { count ≤ length source.now }
+    requires out { from + run ≤ length out.old }
+    requires source { from + run ≤ length source.now }
     requires carries { at + axis.inner ≤ length carries.old }
     requires typed { AreOf T.elem carries.old at axis.inner }
     requires some { 1 ≤ axis.length }
-    requires inner { axis.inner ≡ 1 }
-    requires inside { position + count ≤ axis.outer * (axis.length * axis.inner) }
-    requires short { position + count ≤ MOST_ELEMENTS }
+    requires inner { 1 ≤ axis.inner }
+    requires run { 1 ≤ run }
+    requires together { place % width_of axis + run ≤ width_of axis }
+    requires inside { place + run ≤ axis.outer * (axis.length * axis.inner) }
     ensures out { length out.new ≡ length out.old }
     ensures carries { ChangesWithin T.elem at axis.inner carries.old carries.new }
-    ensures scanned { ScansOn (value code T.elem) (T.number start) axis.length axis.inner (kept_at carries.old at) (kept_at carries.new at) (entry T.number out.new) (entry T.number source.now) position 0 count }
+    ensures before { (l : ℕ) → l < from → entry T.number out.new l ≡ entry T.number out.old l }
+    ensures scanned { ScansAlong T.elem T.number code start axis at carries.old carries.new out.new source.now place from run }
 {
-    let mut done = 0;
-    while done < count {
-        let place = position + done;
-        let room = axis.length - place % axis.length;
-        let run = room.min(count - done);
+    if axis.inner == 1 {
         scan_lane_part(
-            code, out, carries, at, source, start, done, place, run, axis,
+            code, out, carries, at, source, start, from, place, run, axis,
         );
-        done += run;
+    } else {
+        scan_row_part(
+            code, out, carries, at, source, start, from, place, run, axis,
+        );
     }
 }
 
@@ -110,7 +117,7 @@ fn scan_lane_part<T: Lane>(
     ensures out { length out.new ≡ length out.old }
     ensures carries { ChangesWithin T.elem at axis.inner carries.old carries.new }
     ensures before { (l : ℕ) → l < from → entry T.number out.new l ≡ entry T.number out.old l }
-    ensures scanned { ScansOn (value code T.elem) (T.number start) axis.length axis.inner (kept_at carries.old at) (kept_at carries.new at) (entry T.number out.new) (entry T.number source.now) place from run }
+    ensures scanned { ScansAlong T.elem T.number code start axis at carries.old carries.new out.new source.now place from run }
 {
     let before = fold_before(carries, at, start, place % axis.length == 0);
     carries[at] = scan_run(code, out, source, from, run, before).widen();
@@ -127,43 +134,6 @@ fn fold_before<T: Lane>(carries: &[i128], at: usize, start: T, first: bool) -> T
         return start;
     }
     T::narrow(carries[at])
-}
-
-/// Scans a strip by rows of positions that lie side by side.
-fn scan_rows<T: Lane>(
-    code: Code,
-    out: &mut [T],
-    carries: &mut [i128],
-    at: usize,
-    source: &[T],
-    start: T,
-    position: usize,
-    count: usize,
-    axis: Axis,
-)
-    requires code { IsTrue (is_fold code) }
-    requires out { count ≤ length out.old }
-    requires source { count ≤ length source.now }
-    requires carries { at + axis.inner ≤ length carries.old }
-    requires typed { AreOf T.elem carries.old at axis.inner }
-    requires some { 1 ≤ axis.length }
-    requires inner { 1 ≤ axis.inner }
-    requires inside { position + count ≤ axis.outer * (axis.length * axis.inner) }
-    requires short { position + count ≤ MOST_ELEMENTS }
-    ensures out { length out.new ≡ length out.old }
-    ensures carries { ChangesWithin T.elem at axis.inner carries.old carries.new }
-    ensures scanned { ScansOn (value code T.elem) (T.number start) axis.length axis.inner (kept_at carries.old at) (kept_at carries.new at) (entry T.number out.new) (entry T.number source.now) position 0 count }
-{
-    let mut done = 0;
-    while done < count {
-        let place = position + done;
-        let room = axis.inner - place % axis.inner;
-        let run = room.min(count - done);
-        scan_row_part(
-            code, out, carries, at, source, start, done, place, run, axis,
-        );
-        done += run;
-    }
 }
 
 /// Scans a part of a row, from a position on.
@@ -192,7 +162,7 @@ fn scan_row_part<T: Lane>(
     ensures out { length out.new ≡ length out.old }
     ensures carries { ChangesWithin T.elem at axis.inner carries.old carries.new }
     ensures before { (l : ℕ) → l < from → entry T.number out.new l ≡ entry T.number out.old l }
-    ensures scanned { ScansOn (value code T.elem) (T.number start) axis.length axis.inner (kept_at carries.old at) (kept_at carries.new at) (entry T.number out.new) (entry T.number source.now) place from run }
+    ensures scanned { ScansAlong T.elem T.number code start axis at carries.old carries.new out.new source.now place from run }
 {
     let column = at + place % axis.inner;
     let first = place / axis.inner % axis.length == 0;
@@ -216,7 +186,7 @@ fn step_row<T: Lane>(
     requires carries { at + count ≤ length carries.old }
     requires typed { AreOf T.elem carries.old at count }
     requires source { from + count ≤ length source.now }
-    ensures { StepsEach T.elem (λ carry x. value code T.elem (cond first (T.number start) carry) x) carries.old (λ j. entry T.number source.now (from + j)) at count carries.new }
+    ensures { StepsRow T.elem T.number code start first source.now from carries.old at count carries.new }
 {
     if first {
         refill(carries, at, start, count);

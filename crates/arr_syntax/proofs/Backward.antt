@@ -12,24 +12,20 @@ use Rattle.arr_syntax.specs.declared.token.View.{View}
 use Rattle.arr_syntax.specs.declared.token.View.TheVariants.{Broadcast, Transpose, Reshape, Strided}
 use Rattle.arr_syntax.specs.declared.state.Mode.{Mode}
 use Rattle.arr_syntax.specs.declared.state.Mode.TheVariants as mode
-use Rattle.arr_syntax.specs.declared.state.Callee.{Callee}
-use Rattle.arr_syntax.specs.declared.state.Callee.TheVariants as callee
+use Rattle.arr_syntax.specs.declared.state.Rule.{Rule}
+use Rattle.arr_syntax.specs.declared.state.Rule.TheVariants as rule
+use Rattle.arr_syntax.specs.declared.state.Head.TheVariants as head
 use Rattle.arr_syntax.specs.declared.state.Node.{Node}
 use Rattle.arr_syntax.specs.declared.state.Node.TheVariants as node
 use Rattle.arr_syntax.specs.declared.state.Fields.{Fields}
 use Rattle.arr_syntax.specs.declared.state.Part.{Part}
 use Rattle.arr_syntax.specs.declared.state.Part.TheVariants as part
-use Rattle.arr_syntax.specs.declared.state.Head.TheVariants as head
-use Rattle.arr_syntax.specs.declared.state.Role.{Role}
-use Rattle.arr_syntax.specs.declared.state.Role.TheVariants as role
 use Rattle.arr_syntax.specs.declared.state.Frame.{Frame}
-use Rattle.arr_syntax.specs.declared.state.Frame.TheVariants as frame
 use Rattle.arr_syntax.specs.declared.state.State.{State}
 use Rattle.arr_syntax.specs.declared.state.State.TheVariants as state
 use Rattle.arr_syntax.specs.declared.state.Filled.{Filled}
 use Rattle.arr_syntax.specs.declared.state.Filled.TheVariants as filled
 use Rattle.arr_syntax.specs.declared.tree.Code16.{Code16}
-use Rattle.arr_syntax.specs.declared.tree.Code16.TheVariants as code
 use Rattle.arr_syntax.specs.declared.tree.Type4.{Type4}
 use Rattle.arr_syntax.specs.declared.tree.Word.{Word}
 use Rattle.arr_syntax.specs.declared.tree.Expr.{Expr}
@@ -37,10 +33,10 @@ use Rattle.arr_syntax.specs.declared.tree.Statement.{Statement}
 use Rattle.arr_syntax.specs.Grammar as grammar
 use Rattle.arr_syntax.specs.Grammar.{IsSign, IsKeyword, Rest, Level, Primary, Placed, ViewCall, Argument, Ends, Script, OneStatement, operator, comparison, index_at, name_of, word_at, unary_at, binary_at}
 use Rattle.arr_syntax.specs.Machine as machine
-use Rattle.arr_syntax.specs.Machine.{level, sign_level, rank, operate, goes, give, leaves, fits, step, again, wanted_by, wanted, fresh, fill, parts_of, level_of, built, take_part, onward, opened}
-use Rattle.arr_syntax.proofs.Completes.{IsEmpty, Fills, NextPart, Then, Climb, there, up, Closed, Supplied, OpensIn, BoundIn, After, Given, Tree, Wants, Completes, Next, Formed, Takes, WellFormed}
+use Rattle.arr_syntax.specs.Machine.{level, rank, either, behind, goes, give, leaves, fits, step, again, wanted, fresh, with_tree, fill, row_of, level_of, wanted_in, tree_of, stated, onward, opened, opens, frame, target, bound}
+use Rattle.arr_syntax.proofs.Completes.{IsEmpty, NextField, Then, Climb, there, up, BoundIn, After, Given, RowIn, Tree, Wants, Completes, Next, Sits, Formed, Takes, WellFormed}
 use Rattle.arr_syntax.proofs.Filling.{item, fill_back}
-use Rattle.arr_syntax.proofs.Forward.{climb_most, operator_within, again_same, again_most}
+use Rattle.arr_syntax.proofs.Forward.{climb_most, operator_within, again_same, takes_in}
 
 -- climbing
 
@@ -90,26 +86,22 @@ climb_rest n m t u a b e f (up r k) = climb_end (suc n) m _ u t _ b a (omega ari
 -- parts
 
 resume_back : (n : Node) (at : Place) (ps : List Part) (f : Fields) (s : List Frame) (ts : List Item) (r : List Statement) →
-    Completes (machine.resume n at ps f s) ts r → Fills ps f ts (λ g b. Given (level_of n) s (built n at g) b r)
-resume_back n at [] f s ts r k = k
+    Next (machine.resume n at ps f s) ts r → RowIn n at ps f s ts r
 resume_back n at (p ∷ ps) f s ts r k = k
+resume_back (node.Tree n) at [] f s ts r k = k
+resume_back (node.Statement h) at [] f s ts r k = k
 
 onward_back : (n : Node) (at : Place) (ps : List Part) (s : List Frame) (x : Filled) (ts : List Item) (r : List Statement) →
-    Next (onward n at ps s x) ts r → NextPart x ts (λ g b. Fills ps g b (λ h c. Given (level_of n) s (built n at h) c r))
+    Next (onward n at ps s x) ts r → NextField x ts (λ g b. RowIn n at ps g s b r)
 onward_back n at ps s filled.Stuck ts r k = absurd k
 onward_back n at ps s (filled.Over f) ts r k = resume_back n at ps f s ts r k
 onward_back n at ps s (filled.Turns p f) ts r k = k
 
-take_back : (n : Node) (at : Place) (p : Part) (ps : List Part) (f : Fields) (s : List Frame) (i : Item) (ts : List Item) (r : List Statement) →
-    Next (take_part n at (p ∷ ps) f s i) ts r → Fills (p ∷ ps) f (i ∷ ts) (λ g b. Given (level_of n) s (built n at g) b r)
-take_back n at p ps f s i ts r k =
-    fill_back (λ g b. Fills ps g b (λ h c. Given (level_of n) s (built n at h) c r)) p i.token i.at f ts (onward_back n at ps s (fill p i.token i.at f) ts r k)
-
 -- how a tree goes on
 
 module _ (at : Place) (s : List Frame) (l : Expr) (r : List Statement) where
-  operate_back : (x : Sign) (o : Option (ℕ × Code16)) (k : Option Code16) (ts : List Item) → operator x ≡ o → comparison x ≡ k → rank o k < wanted s →
-      Next (operate o k at s l) ts r → Given (rank o k) s l (item (token.Sign x) at ∷ ts) r
+  operate_back : (x : Sign) (o : Option (ℕ × Code16)) (k : Option Code16) (ts : List Item) → operator x ≡ o → comparison x ≡ k → rank (either o k) < wanted s →
+      Next (opens (either o k) at (with_tree (fresh at) l) s) ts r → Given (rank (either o k)) s l (item (token.Sign x) at ∷ ts) r
   operate_back x (Some (n, c)) k ts e g h (t, b, right, (u, d, climb, after)) =
       let w = operator_within x n c e in
       let q = split n (wanted s) _ u b d h (subst (λ (v : ℕ). Climb v (wanted s) (binary_at at c l t) b u d) (again_same n w.1) climb) in
@@ -117,16 +109,16 @@ module _ (at : Place) (s : List Frame) (l : Expr) (r : List Statement) where
   operate_back x None (Some c) ts e g h (t, b, right, (u, d, climb, after)) = (u, d, up (grammar.compared refl refl g right) climb, after)
   operate_back x None None ts e g h k = absurd k
 
-  power_back : (ts : List Item) → Completes (opened (node.Power l) at s) ts r → Given 1 s l (item (token.Sign sign.Power) at ∷ ts) r
+  power_back : (ts : List Item) → Next (opened (node.Tree rule.Power) at (with_tree (fresh at) l) s) ts r → Given 1 s l (item (token.Sign sign.Power) at ∷ ts) r
   power_back [] k = absurd k
   power_back (j ∷ ts) (n, e, (u, d, climb, after)) = (u, d, up (grammar.power refl e) climb, after)
 
-  index_back : (ts : List Item) → 0 < wanted s → Completes (opened (node.Index l) at s) ts r → Given 0 s l (item (token.Sign sign.OpenIndex) at ∷ ts) r
+  index_back : (ts : List Item) → 0 < wanted s → Next (opened (node.Tree rule.Index) at (with_tree (fresh at) l) s) ts r → Given 0 s l (item (token.Sign sign.OpenIndex) at ∷ ts) r
   index_back ts h (xs, b, list, (u, d, climb, after)) =
       let q = split 0 (wanted s) _ u b d h climb in
       (u, d, up (grammar.index (grammar.bracketed refl list) q.rest) q.climb, after)
 
-  sign_back : (x : Sign) (ts : List Item) → sign_level x < wanted s → Next (machine.sign_goes x at s l) ts r → Given (sign_level x) s l (item (token.Sign x) at ∷ ts) r
+  sign_back : (x : Sign) (ts : List Item) → rank (behind x) < wanted s → Next (goes (token.Sign x) at s l) ts r → Given (rank (behind x)) s l (item (token.Sign x) at ∷ ts) r
   sign_back sign.OpenIndex ts h k = index_back ts h k
   sign_back sign.Power ts h k = power_back ts k
   sign_back x ts h k = operate_back x (operator x) (comparison x) ts refl refl h k
@@ -140,85 +132,6 @@ both_yes true true e = (refl, refl)
 both_yes true false e = cc
 both_yes false b e = cc
 
--- when a frame has its tree
-
-module _ (r : List Statement) where
-  ends_back : (t : Token) (at : Place) (st : Statement) (ts : List Item) → Next (machine.ends t st) ts r → (ss : List Statement) × Ends (item t at ∷ ts) ss × (r ≡ st ∷ ss)
-  ends_back token.Line at st ts (ss, k, q) = (ss, grammar.next refl k, q)
-  ends_back token.End at st [] (ss, (e, z), q) = ([], grammar.finish refl, q ∙ ap (λ (v : List Statement). st ∷ v) z)
-  ends_back token.End at st (i ∷ ts) (ss, (e, z), q) = absurd e
-  ends_back _ at st ts k = absurd k
-
-  assigns_back : (t : Token) (at : Place) (s : List Frame) (u : Expr) (ts : List Item) → Next (machine.assigns t at u) ts r → After (frame.Target ∷ s) u (item t at ∷ ts) r
-  assigns_back (token.Sign sign.Assign) at s u ts k = (refl, k)
-  assigns_back _ at s u ts k = absurd k
-
-  asks_back : (f : Role) (t : Token) (i_at at : Place) (ts : List Item) → Next (machine.asks_next t f at) ts r → Then (item t i_at ∷ ts) (λ i b. IsSign i sign.Comma × Completes (machine.asks f at) b r)
-  asks_back f (token.Sign sign.Comma) i_at at ts k = (refl, k)
-  asks_back f _ i_at at ts k = absurd k
-
-  finishes_back : (t : Token) (i_at : Place) (st : Statement) (ts : List Item) → Next (machine.finishes t st) ts r → Closed st (item t i_at ∷ ts) r
-  finishes_back (token.Sign sign.Close) i_at st ts k = (refl, k)
-  finishes_back _ i_at st ts k = absurd k
-
-  answers_back : (f : Role) (at : Place) (u : Expr) (i : Item) (ts : List Item) → Next (machine.answers f at u i.token) ts r → Supplied f at u (i ∷ ts) r
-  answers_back (role.Source w) at u i ts k = asks_back (role.Index w u) i.token i.at at ts k
-  answers_back (role.Index w t) at u i ts k = finishes_back i.token i.at _ ts k
-  answers_back role.Target at u i ts k = asks_back (role.Places u) i.token i.at at ts k
-  answers_back (role.Places t) at u i ts k = asks_back (role.Values t u) i.token i.at at ts k
-  answers_back (role.Values t x) at u i ts k = finishes_back i.token i.at _ ts k
-
-  closes_back : (t : Token) (at : Place) (s : List Frame) (u : Expr) (ts : List Item) → Next (machine.closes t s u) ts r → After (frame.Bracket ∷ s) u (item t at ∷ ts) r
-  closes_back (token.Sign sign.Close) at s u ts k = (refl, k)
-  closes_back _ at s u ts k = absurd k
-
-  seconds_back : (t : Token) (i_at : Place) (m : Mode) (c : Code16) (at : Place) (s : List Frame) (u : Expr) (ts : List Item) →
-      Next (machine.seconds t c at u s) ts r → After (frame.Argument m (callee.First c) at ∷ s) u (item t i_at ∷ ts) r
-  seconds_back (token.Sign sign.Comma) i_at m c at s u ts k = (refl, k)
-  seconds_back _ i_at m c at s u ts k = absurd k
-
-  argued_back : (m : Mode) (c : Callee) (at : Place) (s : List Frame) (t : Expr) (i : Item) (ts : List Item) →
-      Next (machine.argued c at s t i) ts r → After (frame.Argument m c at ∷ s) t (i ∷ ts) r
-  argued_back m (callee.Fold c) at s t i ts k = take_back (node.Fold c t) at part.Comma (part.Number ∷ part.Close ∷ []) (fresh at) s i ts r k
-  argued_back m callee.Absolute at s t i ts k = take_back (node.Absolute t) at part.Close [] (fresh at) s i ts r k
-  argued_back m (callee.Cast to) at s t i ts k = take_back (node.Cast to t) at part.Close [] (fresh at) s i ts r k
-  argued_back m (callee.First c) at s t i ts k = seconds_back i.token i.at m c at s t ts k
-  argued_back m (callee.Second c l) at s t i ts k = take_back (node.Pair c l t) at part.Close [] (fresh at) s i ts r k
-  argued_back m (callee.View Broadcast) at s t i ts k = take_back (node.View Broadcast t) at part.Comma (part.Shape ∷ part.Close ∷ []) (fresh at) s i ts r k
-  argued_back m (callee.View Transpose) at s t i ts k = take_back (node.View Transpose t) at part.Close [] (fresh at) s i ts r k
-  argued_back m (callee.View Reshape) at s t i ts k = take_back (node.View Reshape t) at part.Comma (part.Shape ∷ part.Close ∷ []) (fresh at) s i ts r k
-  argued_back m (callee.View Strided) at s t i ts k =
-      take_back (node.View Strided t) at part.Comma (part.Number ∷ part.Comma ∷ part.Shape ∷ part.Comma ∷ part.Strides ∷ part.Close ∷ []) (fresh at) s i ts r k
-
-  choose_back : (f : Frame) (s : List Frame) (n : ℕ) (t : Expr) (i : Item) (ts : List Item) → n ≤ wanted_by f → Next (give (f ∷ s) n t i) ts r →
-      (Next (leaves f s t i (λ m u. give s m u i)) ts r → After (f ∷ s) t (i ∷ ts) r) → Given n (f ∷ s) t (i ∷ ts) r
-  choose_back f s n t i ts h k over =
-      elim (fits n i.token f) as (λ v. fits n i.token f ≡ v → Next (cond v (goes i.token i.at (f ∷ s) t) (leaves f s t i (λ m u. give s m u i))) ts r → Given n (f ∷ s) t (i ∷ ts) r) [
-        | true ↦ λ e w. goes_on e w
-        | false ↦ λ e w. (t, i ∷ ts, stops n (wanted_by f) t (i ∷ ts) h, over w)
-      ] refl k
-    where
-      goes_on : fits n i.token f ≡ true → Next (goes i.token i.at (f ∷ s) t) ts r → Given n (f ∷ s) t (i ∷ ts) r
-      goes_on e w =
-          let b = both_yes (nat_le n (level i.token)) (nat_lt (level i.token) (wanted_by f)) e in
-          let x : nat_le n (level i.token) ≡ true = b.0 in
-          let y : nat_lt (level i.token) (wanted_by f) ≡ true = b.1 in
-          let le : n ≤ level i.token = grind (arith, nat_tests) in
-          let lt : level i.token < wanted_by f = grind (arith, nat_tests) in
-          let g = goes_back i.at (f ∷ s) t r i.token ts lt w in
-          (g.0, g.1, lower (level i.token) n (wanted_by f) t g.0 (i ∷ ts) g.1 le g.2, g.3)
-
-  pub give_back : (s : List Frame) (n : ℕ) (t : Expr) (i : Item) (ts : List Item) → Formed s → n ≤ wanted s → Next (give s n t i) ts r → Given n s t (i ∷ ts) r
-  give_back [] n t i ts w h k = absurd k
-  give_back (frame.Value v ∷ s) n t i ts w h k = choose_back (frame.Value v) s n t i ts h k (λ x. ends_back i.token i.at (machine.stated v t) ts x)
-  give_back (frame.Target ∷ s) n t i ts w h k = choose_back frame.Target s n t i ts h k (λ x. assigns_back i.token i.at s t ts x)
-  give_back (frame.Role f at ∷ s) n t i ts w h k = choose_back (frame.Role f at) s n t i ts h k (λ x. answers_back f at t i ts x)
-  give_back (frame.Bracket ∷ s) n t i ts w h k = choose_back frame.Bracket s n t i ts h k (λ x. closes_back i.token i.at s t ts x)
-  give_back (frame.Argument m c at ∷ s) n t i ts w h k = choose_back (frame.Argument m c at) s n t i ts h k (λ x. argued_back m c at s t i ts x)
-  give_back (frame.Invert at ∷ s) n t i ts w h k = choose_back (frame.Invert at) s n t i ts h k (λ x. give_back s 2 (unary_at at code.Invert t) i ts w.1 w.0 x)
-  give_back (frame.Operand m c at l ∷ s) n t i ts w h k =
-      choose_back (frame.Operand m c at l) s n t i ts h k (λ x. give_back s (again m) (binary_at at c l t) i ts w.3 (again_most m (wanted s) w.0) x)
-
 -- the beginning of a tree
 
 module _ (at : Place) (s : List Frame) (r : List Statement) where
@@ -228,33 +141,37 @@ module _ (at : Place) (s : List Frame) (r : List Statement) where
   abbrev here : Token → List Item → List Item
   here t ts = item t at ∷ ts
 
-  argument_out : (m : Mode) (c : Callee) (t : Expr) (a b : List Item) → Tree m (wanted_by (frame.Argument m c at)) a t b → Argument m a t b
-  argument_out mode.Value c t a b l = grammar.value l
-  argument_out mode.Place c t a b l = grammar.place l
+  argument_out : (m : Mode) (v : View) (t : Expr) (a b : List Item) → Tree m (wanted_in (node.Tree (rule.View m v)) m) a t b → Argument m a t b
+  argument_out mode.Value v t a b l = grammar.value l
+  argument_out mode.Place v t a b l = grammar.place l
+
+  -- the row of a rule, behind its first token
+  abbrev Ruled : Rule → List Item → Type 0
+  Ruled n ts = Next (opened (node.Tree n) at (fresh at) s) ts r
 
   abbrev Viewed : Mode → View → List Item → Type 0
   Viewed m v ts = (t : Expr) × (b : List Item) × ViewCall m (here (token.Keyword (keyword.View v)) ts) t b × Given 0 s t b r
 
-  broadcast_back : (m : Mode) (ts : List Item) → Completes (state.Call m (callee.View Broadcast) at s) ts r → Viewed m Broadcast ts
+  broadcast_back : (m : Mode) (ts : List Item) → Ruled (rule.View m Broadcast) ts → Viewed m Broadcast ts
   broadcast_back m [] k = absurd k
   broadcast_back m (j ∷ a) (o, (t, [], l, k)) = absurd k
   broadcast_back m (j ∷ a) (o, (t, i ∷ b, l, (comma, (sat, xs, [], shape, k)))) = absurd k
   broadcast_back m (j ∷ a) (o, (t, i ∷ b, l, (comma, (sat, xs, p ∷ c, shape, (close, g))))) =
-      (_, c, grammar.broadcast refl o (argument_out m (callee.View Broadcast) t a (i ∷ b) l) comma shape close, g)
+      (_, c, grammar.broadcast refl o (argument_out m Broadcast t a (i ∷ b) l) comma shape close, g)
 
-  reshape_back : (m : Mode) (ts : List Item) → Completes (state.Call m (callee.View Reshape) at s) ts r → Viewed m Reshape ts
+  reshape_back : (m : Mode) (ts : List Item) → Ruled (rule.View m Reshape) ts → Viewed m Reshape ts
   reshape_back m [] k = absurd k
   reshape_back m (j ∷ a) (o, (t, [], l, k)) = absurd k
   reshape_back m (j ∷ a) (o, (t, i ∷ b, l, (comma, (sat, xs, [], shape, k)))) = absurd k
   reshape_back m (j ∷ a) (o, (t, i ∷ b, l, (comma, (sat, xs, p ∷ c, shape, (close, g))))) =
-      (_, c, grammar.reshape refl o (argument_out m (callee.View Reshape) t a (i ∷ b) l) comma shape close, g)
+      (_, c, grammar.reshape refl o (argument_out m Reshape t a (i ∷ b) l) comma shape close, g)
 
-  transpose_back : (m : Mode) (ts : List Item) → Completes (state.Call m (callee.View Transpose) at s) ts r → Viewed m Transpose ts
+  transpose_back : (m : Mode) (ts : List Item) → Ruled (rule.View m Transpose) ts → Viewed m Transpose ts
   transpose_back m [] k = absurd k
   transpose_back m (j ∷ a) (o, (t, [], l, k)) = absurd k
-  transpose_back m (j ∷ a) (o, (t, i ∷ b, l, (close, g))) = (_, b, grammar.transpose refl o (argument_out m (callee.View Transpose) t a (i ∷ b) l) close, g)
+  transpose_back m (j ∷ a) (o, (t, i ∷ b, l, (close, g))) = (_, b, grammar.transpose refl o (argument_out m Transpose t a (i ∷ b) l) close, g)
 
-  strided_back : (m : Mode) (ts : List Item) → Completes (state.Call m (callee.View Strided) at s) ts r → Viewed m Strided ts
+  strided_back : (m : Mode) (ts : List Item) → Ruled (rule.View m Strided) ts → Viewed m Strided ts
   strided_back m [] k = absurd k
   strided_back m (j ∷ a) (o, (t, [], l, k)) = absurd k
   strided_back m (j ∷ a) (o, (t, i ∷ [], l, (comma, k))) = absurd k
@@ -262,29 +179,29 @@ module _ (at : Place) (s : List Frame) (r : List Statement) where
   strided_back m (j ∷ a) (o, (t, i ∷ p ∷ q ∷ b, l, (comma, (n, number, (second, (sat, xs, [], shape, k)))))) = absurd k
   strided_back m (j ∷ a) (o, (t, i ∷ p ∷ q ∷ b, l, (comma, (n, number, (second, (sat, xs, v ∷ c, shape, (third, (zat, zs, [], strides, k)))))))) = absurd k
   strided_back m (j ∷ a) (o, (t, i ∷ p ∷ q ∷ b, l, (comma, (n, number, (second, (sat, xs, v ∷ c, shape, (third, (zat, zs, w ∷ d, strides, (close, g))))))))) =
-      (_, d, grammar.strided refl o (argument_out m (callee.View Strided) t a (i ∷ p ∷ q ∷ b) l) comma number second shape third strides close, g)
+      (_, d, grammar.strided refl o (argument_out m Strided t a (i ∷ p ∷ q ∷ b) l) comma number second shape third strides close, g)
 
-  viewed_back : (m : Mode) (v : View) (ts : List Item) → Completes (state.Call m (callee.View v) at s) ts r → Viewed m v ts
+  viewed_back : (m : Mode) (v : View) (ts : List Item) → Ruled (rule.View m v) ts → Viewed m v ts
   viewed_back m Broadcast ts k = broadcast_back m ts k
   viewed_back m Transpose ts k = transpose_back m ts k
   viewed_back m Reshape ts k = reshape_back m ts k
   viewed_back m Strided ts k = strided_back m ts k
 
-  view_back : (v : View) (ts : List Item) → Completes (state.Call mode.Value (callee.View v) at s) ts r → Wants mode.Value s (here (token.Keyword (keyword.View v)) ts) r
+  view_back : (v : View) (ts : List Item) → Ruled (rule.View mode.Value v) ts → Wants mode.Value s (here (token.Keyword (keyword.View v)) ts) r
   view_back v ts k = let x = viewed_back mode.Value v ts k in primary_back x.0 (here (token.Keyword (keyword.View v)) ts) x.1 (grammar.viewed x.2) x.3
 
-  negative_back : (ts : List Item) → Completes (opened node.Negative at s) ts r → Wants mode.Value s (here (token.Sign sign.Minus) ts) r
+  negative_back : (ts : List Item) → Ruled rule.Negative ts → Wants mode.Value s (here (token.Sign sign.Minus) ts) r
   negative_back [] k = absurd k
   negative_back (j ∷ ts) (n, e, g) = primary_back _ (here (token.Sign sign.Minus) (j ∷ ts)) ts (grammar.literal (grammar.negative refl e)) g
 
-  bracket_back : (ts : List Item) → Wants mode.Value (frame.Bracket ∷ s) ts r → Wants mode.Value s (here (token.Sign sign.Open) ts) r
+  bracket_back : (ts : List Item) → Ruled rule.Bracket ts → Wants mode.Value s (here (token.Sign sign.Open) ts) r
   bracket_back ts (t, [], l, k) = absurd k
   bracket_back ts (t, j ∷ b, l, (close, g)) = primary_back t (here (token.Sign sign.Open) ts) b (grammar.bracket refl l close) g
 
-  invert_back : (ts : List Item) → Wants mode.Value (frame.Invert at ∷ s) ts r → Wants mode.Value s (here (token.Sign sign.Not) ts) r
+  invert_back : (ts : List Item) → Ruled rule.Invert ts → Wants mode.Value s (here (token.Sign sign.Not) ts) r
   invert_back ts (t, b, l, (u, c, climb, g)) = (u, c, climbed 2 (wanted s) _ u (here (token.Sign sign.Not) ts) b c (grammar.invert refl l) climb, g)
 
-  range_back : (ts : List Item) → Completes (opened node.Range at s) ts r → Wants mode.Value s (here (token.Keyword keyword.Range) ts) r
+  range_back : (ts : List Item) → Ruled rule.Range ts → Wants mode.Value s (here (token.Keyword keyword.Range) ts) r
   range_back [] k = absurd k
   range_back (j ∷ []) (o, k) = absurd k
   range_back (j ∷ l ∷ []) (o, (n, number, k)) = absurd k
@@ -293,7 +210,7 @@ module _ (at : Place) (s : List Frame) (r : List Statement) where
   range_back (j ∷ l ∷ p ∷ q ∷ []) (o, (n, number, inr (comma, (to, e, k)))) = absurd k
   range_back (j ∷ l ∷ p ∷ q ∷ v ∷ a) (o, (n, number, inr (comma, (to, e, (close, g))))) = primary_back _ _ a (grammar.range refl o number (grammar.one_type comma e) close) g
 
-  full_back : (ts : List Item) → Completes (opened node.Full at s) ts r → Wants mode.Value s (here (token.Keyword keyword.Full) ts) r
+  full_back : (ts : List Item) → Ruled rule.Full ts → Wants mode.Value s (here (token.Keyword keyword.Full) ts) r
   full_back [] k = absurd k
   full_back (j ∷ a) (o, (sat, xs, [], shape, k)) = absurd k
   full_back (j ∷ a) (o, (sat, xs, p ∷ b, shape, (comma, (lat, m, n, [], literal, k)))) = absurd k
@@ -302,30 +219,30 @@ module _ (at : Place) (s : List Frame) (r : List Statement) where
   full_back (j ∷ a) (o, (sat, xs, p ∷ b, shape, (comma, (lat, m, n, q ∷ v ∷ w ∷ c, literal, (second, (to, e, (close, g))))))) =
       primary_back _ _ c (grammar.full refl o shape comma literal second e close) g
 
-  fold_back : (c : Code16) (ts : List Item) → Completes (state.Call mode.Value (callee.Fold c) at s) ts r → Wants mode.Value s (here (token.Keyword (keyword.Fold c)) ts) r
+  fold_back : (c : Code16) (ts : List Item) → Ruled (rule.Fold c) ts → Wants mode.Value s (here (token.Keyword (keyword.Fold c)) ts) r
   fold_back c [] k = absurd k
   fold_back c (j ∷ a) (o, (t, [], l, k)) = absurd k
   fold_back c (j ∷ a) (o, (t, i ∷ [], l, (comma, k))) = absurd k
   fold_back c (j ∷ a) (o, (t, i ∷ p ∷ [], l, (comma, (n, number, k)))) = absurd k
   fold_back c (j ∷ a) (o, (t, i ∷ p ∷ q ∷ b, l, (comma, (n, number, (close, g))))) = primary_back _ _ b (grammar.fold refl o l comma number close) g
 
-  absolute_back : (ts : List Item) → Completes (state.Call mode.Value callee.Absolute at s) ts r → Wants mode.Value s (here (token.Keyword keyword.Absolute) ts) r
+  absolute_back : (ts : List Item) → Ruled rule.Absolute ts → Wants mode.Value s (here (token.Keyword keyword.Absolute) ts) r
   absolute_back [] k = absurd k
   absolute_back (j ∷ a) (o, (t, [], l, k)) = absurd k
   absolute_back (j ∷ a) (o, (t, i ∷ b, l, (close, g))) = primary_back _ _ b (grammar.absolute refl o l close) g
 
-  cast_back : (to : Type4) (ts : List Item) → Completes (state.Call mode.Value (callee.Cast to) at s) ts r → Wants mode.Value s (here (token.Keyword (keyword.Type to)) ts) r
+  cast_back : (to : Type4) (ts : List Item) → Ruled (rule.Cast to) ts → Wants mode.Value s (here (token.Keyword (keyword.Type to)) ts) r
   cast_back to [] k = absurd k
   cast_back to (j ∷ a) (o, (t, [], l, k)) = absurd k
   cast_back to (j ∷ a) (o, (t, i ∷ b, l, (close, g))) = primary_back _ _ b (grammar.cast refl o l close) g
 
-  pair_back : (c : Code16) (ts : List Item) → Completes (state.Call mode.Value (callee.First c) at s) ts r → Wants mode.Value s (here (token.Keyword (keyword.Pair c)) ts) r
+  pair_back : (c : Code16) (ts : List Item) → Ruled (rule.Pair c) ts → Wants mode.Value s (here (token.Keyword (keyword.Pair c)) ts) r
   pair_back c [] k = absurd k
   pair_back c (j ∷ a) (o, (t, [], l, k)) = absurd k
   pair_back c (j ∷ a) (o, (t, i ∷ b, l, (comma, (u, [], q, k)))) = absurd k
   pair_back c (j ∷ a) (o, (t, i ∷ b, l, (comma, (u, p ∷ d, q, (close, g))))) = primary_back _ _ d (grammar.pair refl o l comma q close) g
 
-  begins_value_back : (t : Token) (ts : List Item) → Next (machine.begins_value t at s) ts r → Wants mode.Value s (here t ts) r
+  begins_value_back : (t : Token) (ts : List Item) → Next (machine.begins mode.Value t at s) ts r → Wants mode.Value s (here t ts) r
   begins_value_back (token.Number n) ts k = primary_back _ _ ts (grammar.literal (grammar.plain refl)) k
   begins_value_back (token.Name x) ts k = primary_back _ _ ts (grammar.name refl) k
   begins_value_back (token.Sign sign.Minus) ts k = negative_back ts k
@@ -340,7 +257,7 @@ module _ (at : Place) (s : List Frame) (r : List Statement) where
   begins_value_back (token.Keyword (keyword.View v)) ts k = view_back v ts k
   begins_value_back _ ts k = absurd k
 
-  begins_place_back : (t : Token) (ts : List Item) → wanted s ≡ 1 → Next (machine.begins_place t at s) ts r → Wants mode.Place s (here t ts) r
+  begins_place_back : (t : Token) (ts : List Item) → wanted s ≡ 1 → Next (machine.begins mode.Place t at s) ts r → Wants mode.Place s (here t ts) r
   begins_place_back (token.Name x) ts f (u, b, climb, g) = (u, b, grammar.placed_name refl (climb_rest 0 (wanted s) _ u ts b refl f climb), g)
   begins_place_back (token.Keyword (keyword.View v)) ts f k = placed (viewed_back mode.Place v ts k)
     where
@@ -352,16 +269,60 @@ module _ (at : Place) (s : List Frame) (r : List Statement) where
   begins_back mode.Value t ts f k = begins_value_back t ts k
   begins_back mode.Place t ts f k = begins_place_back t ts f k
 
+-- when a row has its tree
+
+take_back : (n : Node) (at : Place) (p : Part) (ps : List Part) (f : Fields) (s : List Frame) (i : Item) (ts : List Item) (r : List Statement) → Sits n (wanted s) (Formed s) →
+    Next (machine.take n at p ps f s i) ts r → RowIn n at (p ∷ ps) f s (i ∷ ts) r
+take_back n at (part.Tree m) ps f s i ts r h k = begins_back i.at (frame n at m ps f ∷ s) r m i.token ts (takes_in n m (wanted s) (Formed s) at ps f s h) k
+take_back n at (part.Field p) ps f s i ts r h k =
+    fill_back (λ g b. RowIn n at ps g s b r) p i.token i.at f ts (onward_back n at ps s (fill p i.token i.at f) ts r k)
+
+module _ (r : List Statement) where
+  ends_back : (t : Token) (at : Place) (st : Statement) (ts : List Item) → Next (machine.ends t st) ts r → (ss : List Statement) × Ends (item t at ∷ ts) ss × (r ≡ st ∷ ss)
+  ends_back token.Line at st ts (ss, k, q) = (ss, grammar.next refl k, q)
+  ends_back token.End at st [] (ss, (e, z), q) = ([], grammar.finish refl, q ∙ ap (λ (v : List Statement). st ∷ v) z)
+  ends_back token.End at st (i ∷ ts) (ss, (e, z), q) = absurd e
+  ends_back _ at st ts k = absurd k
+
+  leaves_back : (n : Node) (at : Place) (ps : List Part) (f : Fields) (s : List Frame) (i : Item) (ts : List Item) → Sits n (wanted s) (Formed s) →
+      Next (leaves n at ps f s i (λ m u. give s m u i)) ts r → ((m : ℕ) (u : Expr) → Formed s → m ≤ wanted s → Next (give s m u i) ts r → Given m s u (i ∷ ts) r) → RowIn n at ps f s (i ∷ ts) r
+  leaves_back n at (p ∷ ps) f s i ts h k back = take_back n at p ps f s i ts r h k
+  leaves_back (node.Tree n) at [] f s i ts h k back = back (level_of n) (tree_of n at f) h.2 h.1 k
+  leaves_back (node.Statement x) at [] f s i ts h k back = ends_back i.token i.at (stated x at f) ts k
+
+  choose_back : (f : Frame) (s : List Frame) (n : ℕ) (t : Expr) (i : Item) (ts : List Item) → n ≤ f.level → Next (give (f ∷ s) n t i) ts r →
+      (Next (leaves f.row.node f.row.at f.row.rest (with_tree f.row.fields t) s i (λ m u. give s m u i)) ts r → After (f ∷ s) t (i ∷ ts) r) → Given n (f ∷ s) t (i ∷ ts) r
+  choose_back f s n t i ts h k over =
+      elim (fits n i.token f.level) as (λ v. fits n i.token f.level ≡ v → Next (cond v (goes i.token i.at (f ∷ s) t) (leaves f.row.node f.row.at f.row.rest (with_tree f.row.fields t) s i (λ m u. give s m u i))) ts r → Given n (f ∷ s) t (i ∷ ts) r) [
+        | true ↦ λ e w. goes_on e w
+        | false ↦ λ e w. (t, i ∷ ts, stops n (f.level) t (i ∷ ts) h, over w)
+      ] refl k
+    where
+      goes_on : fits n i.token f.level ≡ true → Next (goes i.token i.at (f ∷ s) t) ts r → Given n (f ∷ s) t (i ∷ ts) r
+      goes_on e w =
+          let b = both_yes (nat_le n (level i.token)) (nat_lt (level i.token) (f.level)) e in
+          let x : nat_le n (level i.token) ≡ true = b.0 in
+          let y : nat_lt (level i.token) (f.level) ≡ true = b.1 in
+          let le : n ≤ level i.token = grind (arith, nat_tests) in
+          let lt : level i.token < f.level = grind (arith, nat_tests) in
+          let g = goes_back i.at (f ∷ s) t r i.token ts lt w in
+          (g.0, g.1, lower (level i.token) n (f.level) t g.0 (i ∷ ts) g.1 le g.2, g.3)
+
+  give_back : (s : List Frame) (n : ℕ) (t : Expr) (i : Item) (ts : List Item) → Formed s → n ≤ wanted s → Next (give s n t i) ts r → Given n s t (i ∷ ts) r
+  give_back [] n t i ts w h k = absurd k
+  give_back (f ∷ s) n t i ts w h k =
+      choose_back f s n t i ts h k (λ x. leaves_back f.row.node f.row.at f.row.rest (with_tree f.row.fields t) s i ts w.2 x (λ m u v l y. give_back s m u i ts v l y))
+
 -- statements
 
 module _ (r : List Statement) where
   script_is : (a b : List Item) (st : Statement) (ss : List Statement) → OneStatement a st b → Ends b ss → r ≡ st ∷ ss → Script a r
   script_is a b st ss one ends q = subst (λ (v : List Statement). Script a v) (sym q) (grammar.statement one ends)
 
-  target_back : (at : Place) (v : View) (ts : List Item) → Completes (state.Call mode.Place (callee.View v) at (frame.Target ∷ [])) ts r → Script (item (token.Keyword (keyword.View v)) at ∷ ts) r
-  target_back at v ts k = assigned (viewed_back at (frame.Target ∷ []) r mode.Place v ts k)
+  target_back : (at : Place) (v : View) (ts : List Item) → Ruled at (target at) r (rule.View mode.Place v) ts → Script (item (token.Keyword (keyword.View v)) at ∷ ts) r
+  target_back at v ts k = assigned (viewed_back at (target at) r mode.Place v ts k)
     where
-      assigned : Viewed at (frame.Target ∷ []) r mode.Place v ts → Script (item (token.Keyword (keyword.View v)) at ∷ ts) r
+      assigned : Viewed at (target at) r mode.Place v ts → Script (item (token.Keyword (keyword.View v)) at ∷ ts) r
       assigned (t, b, call, (u, [], climb, g)) = absurd g
       assigned (t, b, call, (u, j ∷ c, climb, (a, (w, e, l, (ss, ends, q))))) =
           script_is _ e _ ss (grammar.assign (grammar.target_view call (climb_rest 0 1 t u b (j ∷ c) refl refl climb)) a l) ends q
@@ -371,7 +332,8 @@ module _ (r : List Statement) where
   deletes_back at (j ∷ b) (x, e, (ss, ends, q)) = script_is _ b _ ss (grammar.delete refl e) ends q
 
   gather_back : (at : Place) (x : List ℕ) (j : Item) (ts : List Item) → IsSign j sign.Assign →
-      Then ts (λ i b. IsKeyword i keyword.Gather × OpensIn (role.Source (word_at at x)) i.at b r) → Script (item (token.Name x) at ∷ j ∷ ts) r
+      Then ts (λ i b. IsKeyword i keyword.Gather × RowIn (node.Statement (head.Gather (word_at at x))) i.at (row_of (node.Statement (head.Gather (word_at at x)))) (fresh i.at) [] b r) →
+      Script (item (token.Name x) at ∷ j ∷ ts) r
   gather_back at x j [] a k = absurd k
   gather_back at x j (i ∷ []) a (word, k) = absurd k
   gather_back at x j (i ∷ p ∷ b) a (word, (first, (t, [], l, k))) = absurd k
@@ -379,7 +341,7 @@ module _ (r : List Statement) where
   gather_back at x j (i ∷ p ∷ b) a (word, (first, (t, o ∷ c, l, (comma, (u, z ∷ d, m, (close, (ss, ends, q))))))) =
       script_is _ d _ ss (grammar.gather refl a word first l comma m close) ends q
 
-  scatter_back : (at : Place) (ts : List Item) → OpensIn role.Target at ts r → Script (item (token.Keyword keyword.Scatter) at ∷ ts) r
+  scatter_back : (at : Place) (ts : List Item) → Next (opened (node.Statement head.Scatter) at (fresh at) []) ts r → Script (item (token.Keyword keyword.Scatter) at ∷ ts) r
   scatter_back at [] k = absurd k
   scatter_back at (j ∷ a) (first, (t, [], p, k)) = absurd k
   scatter_back at (j ∷ a) (first, (t, o ∷ b, p, (comma, (u, [], l, k)))) = absurd k
@@ -418,11 +380,7 @@ module _ (r : List Statement) where
   -- what is not `gather` begins a value
   binds_back : (t : Token) (at : Place) (w : Word) (ts : List Item) → Next (machine.binds t at w) ts r → BoundIn w (item t at ∷ ts) r
   binds_back (token.Keyword keyword.Gather) at w ts k = inr (refl, k)
-  binds_back t at w ts k = inl (begins_value_back at (frame.Value (head.Bind w) ∷ []) r t ts k)
-
-  asks_first_back : (t : Token) (i_at : Place) (f : Role) (at : Place) (ts : List Item) → Next (machine.asks_first t f at) ts r → OpensIn f at (item t i_at ∷ ts) r
-  asks_first_back (token.Sign sign.Open) i_at f at ts k = (refl, k)
-  asks_first_back _ i_at f at ts k = absurd k
+  binds_back t at w ts k = inl (begins_value_back at (bound w) r t ts k)
 
   delete_back : (t : Token) (at : Place) (ts : List Item) → Next (machine.deletes t at) ts r → Completes state.Delete (item t at ∷ ts) r
   delete_back (token.Name x) at ts (ss, ends, q) = (x, refl, (ss, ends, q))
@@ -433,20 +391,12 @@ module _ (r : List Statement) where
   ended_back token.End at ts (e, q) = finish_back at ts e q
   ended_back _ at ts k = absurd k
 
-  calls_back : (t : Token) (i_at : Place) (m : Mode) (c : Callee) (at : Place) (s : List Frame) (ts : List Item) →
-      Next (machine.calls t m c at s) ts r → Completes (state.Call m c at s) (item t i_at ∷ ts) r
-  calls_back (token.Sign sign.Open) i_at m c at s ts k = (refl, k)
-  calls_back _ i_at m c at s ts k = absurd k
-
   pub backward : (st : State) (i : Item) (ts : List Item) → WellFormed st → Next (step st i) ts r → Completes st (i ∷ ts) r
   backward state.Start i ts f k = starts_back i.token i.at ts k
   backward (state.Named w) i ts f k = named_back i.token i.at w ts k
   backward (state.Bound w) i ts f k = binds_back i.token i.at w ts k
-  backward (state.Opens x at) i ts f k = asks_first_back i.token i.at x at ts k
   backward state.Delete i ts f k = delete_back i.token i.at ts k
   backward state.Ended i ts f k = ended_back i.token i.at ts k
-  backward (state.Want m s) i ts f k = begins_back i.at s r m i.token ts f.0 k
-  backward (state.Call m c at s) i ts f k = calls_back i.token i.at m c at s ts k
   backward (state.Have n t s) i ts f k = give_back r s n t i ts f.1 f.0 k
-  backward (state.Fill n at p ps g s) i ts f k = take_back n at p ps g s i ts r k
+  backward (state.Fill p w s) i ts f k = take_back w.node w.at p w.rest w.fields s i ts r f.1 k
   backward state.Finished i ts f k = absurd k

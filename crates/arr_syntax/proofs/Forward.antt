@@ -1,5 +1,5 @@
 -- What one token makes of what is wanted, from the grammar to the machine.
-use Rattle.std.proofs.Common.{◌≡◌, ℕ, suc, ◌<◌, ◌≤◌, List, [], ◌∷◌, Option, Some, None, refl, sym, ap, subst, arith, Bool, true, false, cond, ◌&&◌, eqb, nat_le, nat_lt, ◌⊎◌, inl, inr}
+use Rattle.std.proofs.Common.{◌≡◌, ℕ, suc, ◌<◌, ◌≤◌, List, [], ◌∷◌, Option, Some, refl, sym, ap, subst, arith, Bool, true, false, cond, ◌&&◌, eqb, nat_le, nat_lt, ◌⊎◌, inl, inr}
 use Rattle.std.proofs.lemmas.Bool.Decides.{nat_tests}
 use Rattle.arr_syntax.specs.declared.refusal.Place.{Place}
 use Rattle.arr_syntax.specs.declared.token.Item.{Item}
@@ -12,18 +12,14 @@ use Rattle.arr_syntax.specs.declared.token.View.{View}
 use Rattle.arr_syntax.specs.declared.token.View.TheVariants.{Broadcast, Transpose, Reshape, Strided}
 use Rattle.arr_syntax.specs.declared.state.Mode.{Mode}
 use Rattle.arr_syntax.specs.declared.state.Mode.TheVariants as mode
-use Rattle.arr_syntax.specs.declared.state.Callee.{Callee}
-use Rattle.arr_syntax.specs.declared.state.Callee.TheVariants as callee
+use Rattle.arr_syntax.specs.declared.state.Rule.TheVariants as rule
 use Rattle.arr_syntax.specs.declared.state.Node.{Node}
 use Rattle.arr_syntax.specs.declared.state.Node.TheVariants as node
 use Rattle.arr_syntax.specs.declared.state.Fields.{Fields}
+use Rattle.arr_syntax.specs.declared.state.Field.TheVariants as field
 use Rattle.arr_syntax.specs.declared.state.Part.{Part}
 use Rattle.arr_syntax.specs.declared.state.Part.TheVariants as part
-use Rattle.arr_syntax.specs.declared.state.Head.TheVariants as head
-use Rattle.arr_syntax.specs.declared.state.Role.{Role}
-use Rattle.arr_syntax.specs.declared.state.Role.TheVariants as role
 use Rattle.arr_syntax.specs.declared.state.Frame.{Frame}
-use Rattle.arr_syntax.specs.declared.state.Frame.TheVariants as frame
 use Rattle.arr_syntax.specs.declared.state.State.{State}
 use Rattle.arr_syntax.specs.declared.state.State.TheVariants as state
 use Rattle.arr_syntax.specs.declared.state.Move.{Move}
@@ -37,8 +33,8 @@ use Rattle.arr_syntax.specs.declared.tree.Statement.{Statement}
 use Rattle.arr_syntax.specs.Grammar as grammar
 use Rattle.arr_syntax.specs.Grammar.{IsSign, IsKeyword, Rest, Level, Primary, Placed, ViewCall, Argument, Ends, Script, OneStatement, operator, comparison, index_at, name_of, word_at, unary_at, binary_at}
 use Rattle.arr_syntax.specs.Machine as machine
-use Rattle.arr_syntax.specs.Machine.{level, sign_level, rank, operate, goes, give, leaves, fits, step, again, wanted_by, wanted, fresh, fill, parts_of, level_of, built, take_part, onward, opened}
-use Rattle.arr_syntax.proofs.Completes.{Fills, NextPart, Climb, there, up, Goes, Closed, OneMore, Supplied, Argued, After, Given, Tree, Wants, Completes, Next, Formed, Takes, WellFormed}
+use Rattle.arr_syntax.specs.Machine.{level, rank, either, behind, goes, give, leaves, fits, step, again, wanted, fresh, with_tree, fill, level_of, inner, wanted_in, tree_of, stated, onward, opened, opens, frame, target, bound}
+use Rattle.arr_syntax.proofs.Completes.{NextField, Climb, there, up, After, Given, RowIn, Tree, Wants, Completes, Next, Low, Sits, Formed, Takes, WellFormed}
 use Rattle.arr_syntax.proofs.Filling.{fill_on}
 
 pub cond_no : {A : Type 0} (b : Bool) (x y : A) → b ≡ false → cond b x y ≡ y
@@ -47,10 +43,10 @@ cond_no b x y e = rw e refl
 pub cond_yes : {A : Type 0} (b : Bool) (x y : A) → b ≡ true → cond b x y ≡ x
 cond_yes b x y e = rw e refl
 
-pub fits_yes : (n k : ℕ) (f : Frame) (t : Token) → level t ≡ k → n ≤ k → k < wanted_by f → fits n t f ≡ true
-fits_yes n k f t e h g =
+pub fits_yes : (n k w : ℕ) (t : Token) → level t ≡ k → n ≤ k → k < w → fits n t w ≡ true
+fits_yes n k w t e h g =
     let a : nat_le n k ≡ true = grind (arith, nat_tests) in
-    let b : nat_lt k (wanted_by f) ≡ true = grind (arith, nat_tests) in
+    let b : nat_lt k w ≡ true = grind (arith, nat_tests) in
     rw (e, a, b) refl
 
 both_no : (a b : Bool) → b ≡ false → (a && b) ≡ false
@@ -60,23 +56,20 @@ both_no false b e = refl
 not_below : (a b : ℕ) → (a < b → ⊥) → nat_lt a b ≡ false
 not_below a b h = elim (nat_lt a b) as (λ v. nat_lt a b ≡ v → v ≡ false) [ true ↦ λ e. absurd (h (let k : nat_lt a b ≡ true = e in grind (arith, nat_tests))) | false ↦ λ e. refl ] refl
 
-pub fits_no : (n : ℕ) (f : Frame) (t : Token) → (level t < wanted_by f → ⊥) → fits n t f ≡ false
-fits_no n f t h = both_no _ _ (not_below _ _ h)
+pub fits_no : (n w : ℕ) (t : Token) → (level t < w → ⊥) → fits n t w ≡ false
+fits_no n w t h = both_no _ _ (not_below _ _ h)
 
 -- the level of a sign
 
-rank_operator : (o : Option (ℕ × Code16)) (k : Option Code16) (n : ℕ) (c : Code16) → o ≡ Some (n, c) → rank o k ≡ n
+rank_operator : (o : Option (ℕ × Code16)) (k : Option Code16) (n : ℕ) (c : Code16) → o ≡ Some (n, c) → rank (either o k) ≡ n
 rank_operator o k n c e = rw e refl
 
-rank_comparison : (o : Option (ℕ × Code16)) (k : Option Code16) (c : Code16) → o ≡ None → k ≡ Some c → rank o k ≡ 8
-rank_comparison o k c e g = rw (e, g) refl
-
-pub operator_level : (x : Sign) (n : ℕ) (c : Code16) → operator x ≡ Some (n, c) → sign_level x ≡ n
+pub operator_level : (x : Sign) (n : ℕ) (c : Code16) → operator x ≡ Some (n, c) → rank (behind x) ≡ n
 operator_level sign.OpenIndex n c e = cc
 operator_level sign.Power n c e = cc
 operator_level x n c e = rank_operator (operator x) (comparison x) n c e
 
-pub comparison_level : (x : Sign) (c : Code16) → comparison x ≡ Some c → sign_level x ≡ 8
+pub comparison_level : (x : Sign) (c : Code16) → comparison x ≡ Some c → rank (behind x) ≡ 8
 comparison_level sign.Equal c e = refl
 comparison_level sign.NotEqual c e = refl
 comparison_level sign.Less c e = refl
@@ -86,21 +79,25 @@ comparison_level sign.GreaterEqual c e = refl
 comparison_level _ c e = cc
 
 module _ (at : Place) (s : List Frame) (t : Expr) where
-  operator_goes : (x : Sign) (n : ℕ) (c : Code16) → operator x ≡ Some (n, c) → machine.sign_goes x at s t ≡ machine.operand n c at t s
+  -- the right side of a sign is wanted
+  abbrev operand : ℕ → Code16 → Move
+  operand n c = opened (node.Tree (rule.Operand n c)) at (with_tree (fresh at) t) s
+
+  operator_goes : (x : Sign) (n : ℕ) (c : Code16) → operator x ≡ Some (n, c) → goes (token.Sign x) at s t ≡ operand n c
   operator_goes sign.OpenIndex n c e = cc
   operator_goes sign.Power n c e = cc
-  operator_goes x n c e = operate_is (operator x) (comparison x) e
+  operator_goes x n c e = either_is (operator x) (comparison x) e
     where
-      operate_is : (o : Option (ℕ × Code16)) (k : Option Code16) → o ≡ Some (n, c) → operate o k at s t ≡ machine.operand n c at t s
-      operate_is o k g = rw g refl
+      either_is : (o : Option (ℕ × Code16)) (k : Option Code16) → o ≡ Some (n, c) → opens (either o k) at (with_tree (fresh at) t) s ≡ operand n c
+      either_is o k g = rw g refl
 
-  comparison_goes : (x : Sign) (c : Code16) → comparison x ≡ Some c → machine.sign_goes x at s t ≡ machine.operand 8 c at t s
-  comparison_goes sign.Equal c e = let p : ◌≡◌ {A = Code16} code.Equal c = cc in ap (λ (k : Code16). machine.operand 8 k at t s) p
-  comparison_goes sign.NotEqual c e = let p : ◌≡◌ {A = Code16} code.NotEqual c = cc in ap (λ (k : Code16). machine.operand 8 k at t s) p
-  comparison_goes sign.Less c e = let p : ◌≡◌ {A = Code16} code.Less c = cc in ap (λ (k : Code16). machine.operand 8 k at t s) p
-  comparison_goes sign.LessEqual c e = let p : ◌≡◌ {A = Code16} code.LessEqual c = cc in ap (λ (k : Code16). machine.operand 8 k at t s) p
-  comparison_goes sign.Greater c e = let p : ◌≡◌ {A = Code16} code.Greater c = cc in ap (λ (k : Code16). machine.operand 8 k at t s) p
-  comparison_goes sign.GreaterEqual c e = let p : ◌≡◌ {A = Code16} code.GreaterEqual c = cc in ap (λ (k : Code16). machine.operand 8 k at t s) p
+  comparison_goes : (x : Sign) (c : Code16) → comparison x ≡ Some c → goes (token.Sign x) at s t ≡ operand 8 c
+  comparison_goes sign.Equal c e = let p : ◌≡◌ {A = Code16} code.Equal c = cc in ap (operand 8) p
+  comparison_goes sign.NotEqual c e = let p : ◌≡◌ {A = Code16} code.NotEqual c = cc in ap (operand 8) p
+  comparison_goes sign.Less c e = let p : ◌≡◌ {A = Code16} code.Less c = cc in ap (operand 8) p
+  comparison_goes sign.LessEqual c e = let p : ◌≡◌ {A = Code16} code.LessEqual c = cc in ap (operand 8) p
+  comparison_goes sign.Greater c e = let p : ◌≡◌ {A = Code16} code.Greater c = cc in ap (operand 8) p
+  comparison_goes sign.GreaterEqual c e = let p : ◌≡◌ {A = Code16} code.GreaterEqual c = cc in ap (operand 8) p
   comparison_goes _ c e = cc
 
 at_most : (x n : ℕ) (c : Code16) (k : ℕ) (d : Code16) → (let p : Option (ℕ × Code16) = Some (x, c) in p) ≡ Some (k, d) → 2 ≤ x → x < 8 → (2 ≤ k) × (k < 8)
@@ -133,20 +130,17 @@ again_most n m h = elim (eqb n 8) as (λ v. eqb n 8 ≡ v → cond v 9 n ≤ m) 
 
 -- parts
 
-pub resume_on : (n : Node) (at : Place) (ps : List Part) (f : Fields) (s : List Frame) (ts : List Item) (r : List Statement) →
-    Fills ps f ts (λ g b. Given (level_of n) s (built n at g) b r) → Completes (machine.resume n at ps f s) ts r
-resume_on n at [] f s ts r k = k
+resume_on : (n : Node) (at : Place) (ps : List Part) (f : Fields) (s : List Frame) (ts : List Item) (r : List Statement) →
+    RowIn n at ps f s ts r → Next (machine.resume n at ps f s) ts r
 resume_on n at (p ∷ ps) f s ts r k = k
+resume_on (node.Tree n) at [] f s ts r k = k
+resume_on (node.Statement h) at [] f s ts r k = k
 
 onward_on : (n : Node) (at : Place) (ps : List Part) (s : List Frame) (x : Filled) (ts : List Item) (r : List Statement) →
-    NextPart x ts (λ g b. Fills ps g b (λ h c. Given (level_of n) s (built n at h) c r)) → Next (onward n at ps s x) ts r
+    NextField x ts (λ g b. RowIn n at ps g s b r) → Next (onward n at ps s x) ts r
 onward_on n at ps s filled.Stuck ts r k = absurd k
 onward_on n at ps s (filled.Over f) ts r k = resume_on n at ps f s ts r k
 onward_on n at ps s (filled.Turns p f) ts r k = k
-
-take_on : (n : Node) (at : Place) (p : Part) (ps : List Part) (f : Fields) (s : List Frame) (i : Item) (ts : List Item) (r : List Statement) →
-    Fills (p ∷ ps) f (i ∷ ts) (λ g b. Given (level_of n) s (built n at g) b r) → Next (take_part n at (p ∷ ps) f s i) ts r
-take_on n at p ps f s i ts r k = onward_on n at ps s (fill p i.token i.at f) ts r (fill_on _ p f i ts k)
 
 -- how a tree goes on
 
@@ -210,115 +204,25 @@ module _ (s : List Frame) (i : Item) (r : List Statement) where
             (_, _, level_as q right, (u, b, climb_from q (climb_to e c), g)));
       })
 
-mode_most : (m : Mode) → machine.mode_level m ≤ 9
-mode_most mode.Value = omega arith
-mode_most mode.Place = omega arith
+pub takes_in : (n : Node) (m : Mode) (w : ℕ) (F : Type 0) (at : Place) (ps : List Part) (f : Fields) (s : List Frame) → Sits n w F → Takes m (frame n at m ps f ∷ s)
+takes_in (node.Tree n) mode.Value w F at ps f s h = h.0
+takes_in (node.Statement h) mode.Value w F at ps f s k = omega arith
+takes_in n mode.Place w F at ps f s h = refl
 
--- a token that would go on at a lower level is nothing to a frame that has its tree
 module _ (i : Item) (r : List Statement) where
-  argued_level : (c : Callee) (at : Place) (u : Expr) (ts : List Item) (back : ℕ → Expr → List Item → Type 0) → Argued c at u (i ∷ ts) back → level i.token ≡ 9
-  argued_level (callee.Fold c) at u ts back (e, k) = ap level e
-  argued_level callee.Absolute at u ts back (e, k) = ap level e
-  argued_level (callee.Cast to) at u ts back (e, k) = ap level e
-  argued_level (callee.First c) at u ts back (e, k) = ap level e
-  argued_level (callee.Second c l) at u ts back (e, k) = ap level e
-  argued_level (callee.View Broadcast) at u ts back (e, k) = ap level e
-  argued_level (callee.View Transpose) at u ts back (e, k) = ap level e
-  argued_level (callee.View Reshape) at u ts back (e, k) = ap level e
-  argued_level (callee.View Strided) at u ts back (e, k) = ap level e
-
-  -- a bracket or a comma follows an argument of a gather or scatter
-  closed_level : (st : Statement) (ts : List Item) → Closed st (i ∷ ts) r → level i.token ≡ 9
-  closed_level st ts (e, k) = ap level e
-
-  more_level : (ts : List Item) (K : Expr → List Item → Type 0) → OneMore (i ∷ ts) K → level i.token ≡ 9
-  more_level ts K (e, k) = ap level e
-
-  supplied_level : (f : Role) (at : Place) (u : Expr) (ts : List Item) → Supplied f at u (i ∷ ts) r → level i.token ≡ 9
-  supplied_level (role.Source w) at u ts k = more_level ts _ k
-  supplied_level (role.Index w t) at u ts k = closed_level _ ts k
-  supplied_level role.Target at u ts k = more_level ts _ k
-  supplied_level (role.Places t) at u ts k = more_level ts _ k
-  supplied_level (role.Values t x) at u ts k = closed_level _ ts k
-
-  quiet : (s : List Frame) (t : Expr) (ts : List Item) → Formed s → level i.token < wanted s → After s t (i ∷ ts) r → ⊥
-  quiet [] t ts f l g = g
-  quiet (frame.Value h ∷ s) t ts f l (ss, grammar.finish e, q) = let p : level i.token ≡ 9 = ap level e in omega arith
-  quiet (frame.Value h ∷ s) t ts f l (ss, grammar.next e k, q) = let p : level i.token ≡ 9 = ap level e in omega arith
-  quiet (frame.Target ∷ s) t ts f l (e, k) = let p : level i.token ≡ 9 = ap level e in omega arith
-  quiet (frame.Role x at ∷ s) t ts f l k = let p = supplied_level x at t ts k in let h = mode_most (machine.mode_of x) in omega (arith, p, h)
-  quiet (frame.Bracket ∷ s) t ts f l (e, k) = let p : level i.token ≡ 9 = ap level e in omega arith
-  quiet (frame.Argument mode.Value c at ∷ s) t ts f l k = let p = argued_level c at t ts _ k in omega (arith, p)
-  quiet (frame.Argument mode.Place c at ∷ s) t ts f l k = let p = argued_level c at t ts _ k in omega (arith, p)
-  quiet (frame.Invert at ∷ s) t ts f l (u, b, c, g) =
-      elim (climbs s i r ts 2 (wanted s) _ u b c refl g) [
-        | inl h ↦ quiet s _ ts f.1 (omega arith) h
-        | inr h ↦ (let a = h.is_level in let d = h.from in omega (arith, a, d))
-      ]
-  quiet (frame.Operand n c at x ∷ s) t ts f l (u, b, climb, g) =
-      elim (climbs s i r ts (again n) (wanted s) _ u b climb refl g) [
-        | inl h ↦ quiet s _ ts f.3 (let d = f.0 in omega arith) h
-        | inr h ↦ (let a = h.is_level in let d = h.from in let e = again_least n in omega (arith, a, d, e))
-      ]
-
-  argued_on : (c : Callee) (at : Place) (s : List Frame) (t : Expr) (ts : List Item) →
-      Argued c at t (i ∷ ts) (λ n v d. Goes (λ w e. After s w e r) n (wanted s) v d) → Next (machine.argued c at s t i) ts r
-  argued_on (callee.Fold c) at s t ts k = take_on (node.Fold c t) at part.Comma (part.Number ∷ part.Close ∷ []) (fresh at) s i ts r k
-  argued_on callee.Absolute at s t ts k = take_on (node.Absolute t) at part.Close [] (fresh at) s i ts r k
-  argued_on (callee.Cast to) at s t ts k = take_on (node.Cast to t) at part.Close [] (fresh at) s i ts r k
-  argued_on (callee.First c) at s t ts (e, k) = rw e k
-  argued_on (callee.Second c l) at s t ts k = take_on (node.Pair c l t) at part.Close [] (fresh at) s i ts r k
-  argued_on (callee.View Broadcast) at s t ts k = take_on (node.View Broadcast t) at part.Comma (part.Shape ∷ part.Close ∷ []) (fresh at) s i ts r k
-  argued_on (callee.View Transpose) at s t ts k = take_on (node.View Transpose t) at part.Close [] (fresh at) s i ts r k
-  argued_on (callee.View Reshape) at s t ts k = take_on (node.View Reshape t) at part.Comma (part.Shape ∷ part.Close ∷ []) (fresh at) s i ts r k
-  argued_on (callee.View Strided) at s t ts k = take_on (node.View Strided t) at part.Comma (part.Number ∷ part.Comma ∷ part.Shape ∷ part.Comma ∷ part.Strides ∷ part.Close ∷ []) (fresh at) s i ts r k
-
-  finishes_on : (st : Statement) (ts : List Item) → Closed st (i ∷ ts) r → Next (machine.finishes i.token st) ts r
-  finishes_on st ts (e, k) = rw e k
-
-  answers_on : (f : Role) (at : Place) (u : Expr) (ts : List Item) → Supplied f at u (i ∷ ts) r → Next (machine.answers f at u i.token) ts r
-  answers_on (role.Source w) at u ts (e, k) = rw e k
-  answers_on (role.Index w t) at u ts k = finishes_on _ ts k
-  answers_on role.Target at u ts (e, k) = rw e k
-  answers_on (role.Places t) at u ts (e, k) = rw e k
-  answers_on (role.Values t x) at u ts k = finishes_on _ ts k
-
-  pub ends_on : (st : Statement) (ts : List Item) (ss : List Statement) → Ends (i ∷ ts) ss → r ≡ st ∷ ss → Next (machine.ends i.token st) ts r
-  ends_on st ts ss (grammar.finish e) q = rw e ([], (tt, refl), q)
-  ends_on st ts ss (grammar.next e k) q = rw e (ss, k, q)
-
-  choose : (f : Frame) (s : List Frame) (n : ℕ) (t : Expr) (ts : List Item) → Formed (f ∷ s) → Given n (f ∷ s) t (i ∷ ts) r →
-      (After (f ∷ s) t (i ∷ ts) r → Next (leaves f s t i (λ m u. give s m u i)) ts r) → Next (give (f ∷ s) n t i) ts r
-  choose f s n t ts w (u, b, c, g) over =
-      elim (climbs (f ∷ s) i r ts n (wanted_by f) t u b c refl g) [
-        | inl h ↦ rw (fits_no n f i.token (λ l. quiet (f ∷ s) t ts w l h)) (over h)
-        | inr h ↦ rw (fits_yes n h.at_level f i.token h.is_level h.from h.below) h.next
-      ]
-
-  -- a tree stands over a stack, and the script goes on with a token: the machine takes the token
-  pub give_on : (s : List Frame) (n : ℕ) (t : Expr) (ts : List Item) → Formed s → Given n s t (i ∷ ts) r → Next (give s n t i) ts r
-  give_on [] n t ts f (u, b, c, g) = absurd g
-  give_on (frame.Value h ∷ s) n t ts w g = choose (frame.Value h) s n t ts w g (λ (ss, k, q). ends_on (machine.stated h t) ts ss k q)
-  give_on (frame.Target ∷ s) n t ts w g = choose frame.Target s n t ts w g (λ (e, k). rw e k)
-  give_on (frame.Role f at ∷ s) n t ts w g = choose (frame.Role f at) s n t ts w g (λ k. answers_on f at t ts k)
-  give_on (frame.Bracket ∷ s) n t ts w g = choose frame.Bracket s n t ts w g (λ (e, k). rw e k)
-  give_on (frame.Argument m c at ∷ s) n t ts w g = choose (frame.Argument m c at) s n t ts w g (λ k. argued_on c at s t ts k)
-  give_on (frame.Invert at ∷ s) n t ts w g = choose (frame.Invert at) s n t ts w g (λ k. give_on s 2 (unary_at at code.Invert t) ts w.1 k)
-  give_on (frame.Operand m c at l ∷ s) n t ts w g = choose (frame.Operand m c at l) s n t ts w g (λ k. give_on s (again m) (binary_at at c l t) ts w.3 k)
-
-  argument_in : (m : Mode) (c : Callee) (at : Place) (t : Expr) (a b : List Item) → Argument m a t b → Tree m (wanted_by (frame.Argument m c at)) a t b
-  argument_in m c at t a b (grammar.value l) = l
-  argument_in m c at t a b (grammar.place l) = l
+  argument_in : (m : Mode) (v : View) (t : Expr) (a b : List Item) → Argument m a t b → Tree m (wanted_in (node.Tree (rule.View m v)) m) a t b
+  argument_in m v t a b (grammar.value l) = l
+  argument_in m v t a b (grammar.place l) = l
 
   view_on : (m : Mode) (s : List Frame) (t : Expr) (ts b : List Item) → ViewCall m (i ∷ ts) t b → Given 0 s t b r →
-      (v : View) × IsKeyword i (keyword.View v) × Completes (state.Call m (callee.View v) i.at s) ts r
-  view_on m s t ts b (grammar.broadcast e o l comma shape close) g = (Broadcast, e, (o, (_, _, argument_in m (callee.View Broadcast) i.at _ _ _ l, (comma, (_, _, _, shape, (close, g))))))
-  view_on m s t ts b (grammar.transpose e o l close) g = (Transpose, e, (o, (_, _, argument_in m (callee.View Transpose) i.at _ _ _ l, (close, g))))
-  view_on m s t ts b (grammar.reshape e o l comma shape close) g = (Reshape, e, (o, (_, _, argument_in m (callee.View Reshape) i.at _ _ _ l, (comma, (_, _, _, shape, (close, g))))))
+      (v : View) × IsKeyword i (keyword.View v) × Next (opened (node.Tree (rule.View m v)) i.at (fresh i.at) s) ts r
+  view_on m s t ts b (grammar.broadcast e o l comma shape close) g = (Broadcast, e, (o, (_, _, argument_in m Broadcast _ _ _ l, (comma, (_, _, _, shape, (close, g))))))
+  view_on m s t ts b (grammar.transpose e o l close) g = (Transpose, e, (o, (_, _, argument_in m Transpose _ _ _ l, (close, g))))
+  view_on m s t ts b (grammar.reshape e o l comma shape close) g = (Reshape, e, (o, (_, _, argument_in m Reshape _ _ _ l, (comma, (_, _, _, shape, (close, g))))))
   view_on m s t ts b (grammar.strided e o l comma number second shape third strides close) g =
-      (Strided, e, (o, (_, _, argument_in m (callee.View Strided) i.at _ _ _ l, (comma, (_, number, (second, (_, _, _, shape, (third, (_, _, _, strides, (close, g))))))))))
+      (Strided, e, (o, (_, _, argument_in m Strided _ _ _ l, (comma, (_, number, (second, (_, _, _, shape, (third, (_, _, _, strides, (close, g))))))))))
 
-  primary_on : (s : List Frame) (t : Expr) (ts b : List Item) → Primary (i ∷ ts) t b → Given 0 s t b r → Next (machine.begins_value i.token i.at s) ts r
+  primary_on : (s : List Frame) (t : Expr) (ts b : List Item) → Primary (i ∷ ts) t b → Given 0 s t b r → Next (machine.begins mode.Value i.token i.at s) ts r
   primary_on s t ts b (grammar.literal (grammar.plain e)) g = rw e g
   primary_on s t ts b (grammar.literal (grammar.negative e n)) g = rw e (_, n, g)
   primary_on s t ts b (grammar.name e) g = rw e g
@@ -334,18 +238,66 @@ module _ (i : Item) (r : List Statement) where
 
   -- a tree of a level begins with a primary or a sign before it
   enter : (s : List Frame) (n m : ℕ) (t u : Expr) (ts b c : List Item) → Level n (i ∷ ts) t b → Climb n m t b u c → m ≡ wanted s → After s u c r →
-      Next (machine.begins_value i.token i.at s) ts r
+      Next (machine.begins mode.Value i.token i.at s) ts r
   enter s n m t u ts b c (grammar.primary p) climb e g = primary_on s t ts b p (u, c, climb_to e climb, g)
   enter s n m t u ts b c (grammar.more l rest) climb e g = enter s _ m _ u ts _ c l (up rest climb) e g
   enter s n m t u ts b c (grammar.invert o l) climb e g = rw o (_, _, l, (u, c, climb_to e climb, g))
 
-  placed_on : (s : List Frame) (t : Expr) (ts b : List Item) → wanted s ≡ 1 → Placed (i ∷ ts) t b → After s t b r → Next (machine.begins_place i.token i.at s) ts r
+  placed_on : (s : List Frame) (t : Expr) (ts b : List Item) → wanted s ≡ 1 → Placed (i ∷ ts) t b → After s t b r → Next (machine.begins mode.Place i.token i.at s) ts r
   placed_on s t ts b f (grammar.placed_name e rest) g = rw e (_, _, climb_to (sym f) (up rest there), g)
   placed_on s t ts b f (grammar.placed_view v rest) g = let x = view_on mode.Place s _ ts _ v (_, _, climb_to (sym f) (up rest there), g) in rw x.1 x.2
 
   begins_on : (m : Mode) (s : List Frame) (ts : List Item) → Takes m s → Wants m s (i ∷ ts) r → Next (machine.begins m i.token i.at s) ts r
   begins_on mode.Value s ts f (t, b, l, g) = enter s (wanted s) (wanted s) t t ts b b l there refl g
   begins_on mode.Place s ts f (t, b, l, g) = placed_on s t ts b f l g
+
+  take_on : (n : Node) (at : Place) (p : Part) (ps : List Part) (f : Fields) (s : List Frame) (ts : List Item) → Sits n (wanted s) (Formed s) →
+      RowIn n at (p ∷ ps) f s (i ∷ ts) r → Next (machine.take n at p ps f s i) ts r
+  take_on n at (part.Tree m) ps f s ts h k = begins_on m (frame n at m ps f ∷ s) ts (takes_in n m (wanted s) (Formed s) at ps f s h) k
+  take_on n at (part.Field p) ps f s ts h k = onward_on n at ps s (fill p i.token i.at f) ts r (fill_on _ p f i ts k)
+
+  -- a token that would go on at a lower level is nothing to a row that has its tree
+  quiet_row : (n : Node) (at : Place) (w : ℕ) (ps : List Part) (f : Fields) (s : List Frame) (ts : List Item) → Low n w ps → Sits n (wanted s) (Formed s) → level i.token < w →
+      RowIn n at ps f s (i ∷ ts) r → ((t : Expr) → Formed s → level i.token < wanted s → After s t (i ∷ ts) r → ⊥) → ⊥
+  quiet_row n at w (part.Field field.Close ∷ ps) f s ts low h l (e, k) below = let p : level i.token ≡ 9 = ap level e in omega (arith, p, low, l)
+  quiet_row n at w (part.Field field.Comma ∷ ps) f s ts low h l (e, k) below = let p : level i.token ≡ 9 = ap level e in omega (arith, p, low, l)
+  quiet_row n at w (part.Field field.Equals ∷ ps) f s ts low h l (e, k) below = let p : level i.token ≡ 9 = ap level e in omega (arith, p, low, l)
+  quiet_row (node.Statement x) at w [] f s ts low h l (ss, grammar.finish e, q) below = let p : level i.token ≡ 9 = ap level e in omega (arith, p, low, l)
+  quiet_row (node.Statement x) at w [] f s ts low h l (ss, grammar.next e k, q) below = let p : level i.token ≡ 9 = ap level e in omega (arith, p, low, l)
+  quiet_row (node.Tree n) at w [] f s ts low h l (u, b, c, g) below =
+      elim (climbs s i r ts (level_of n) (wanted s) _ u b c refl g) [
+        | inl k ↦ below _ h.2 (let m = h.1 in omega (arith, low, l, m)) k
+        | inr k ↦ (let a = k.is_level in let d = k.from in omega (arith, low, l, a, d))
+      ]
+  quiet_row n at w (_ ∷ ps) f s ts low h l k below = absurd low
+
+  quiet : (s : List Frame) (t : Expr) (ts : List Item) → Formed s → level i.token < wanted s → After s t (i ∷ ts) r → ⊥
+  quiet [] t ts w l k = k
+  quiet (f ∷ s) t ts w l k = quiet_row f.row.node f.row.at f.level f.row.rest (with_tree f.row.fields t) s ts w.0 w.2 l k (λ u v m h. quiet s u ts v m h)
+
+  ends_on : (st : Statement) (ts : List Item) (ss : List Statement) → Ends (i ∷ ts) ss → r ≡ st ∷ ss → Next (machine.ends i.token st) ts r
+  ends_on st ts ss (grammar.finish e) q = rw e ([], (tt, refl), q)
+  ends_on st ts ss (grammar.next e k) q = rw e (ss, k, q)
+
+  leaves_on : (n : Node) (at : Place) (ps : List Part) (f : Fields) (s : List Frame) (ts : List Item) → Sits n (wanted s) (Formed s) → RowIn n at ps f s (i ∷ ts) r →
+      ((m : ℕ) (u : Expr) → Formed s → Given m s u (i ∷ ts) r → Next (give s m u i) ts r) → Next (leaves n at ps f s i (λ m u. give s m u i)) ts r
+  leaves_on n at (p ∷ ps) f s ts h k on = take_on n at p ps f s ts h k
+  leaves_on (node.Tree n) at [] f s ts h k on = on (level_of n) (tree_of n at f) h.2 k
+  leaves_on (node.Statement x) at [] f s ts h (ss, k, q) on = ends_on (stated x at f) ts ss k q
+
+  choose : (f : Frame) (s : List Frame) (n : ℕ) (t : Expr) (ts : List Item) → Formed (f ∷ s) → Given n (f ∷ s) t (i ∷ ts) r →
+      (After (f ∷ s) t (i ∷ ts) r → Next (leaves f.row.node f.row.at f.row.rest (with_tree f.row.fields t) s i (λ m u. give s m u i)) ts r) → Next (give (f ∷ s) n t i) ts r
+  choose f s n t ts w (u, b, c, g) over =
+      elim (climbs (f ∷ s) i r ts n f.level t u b c refl g) [
+        | inl h ↦ rw (fits_no n f.level i.token (λ l. quiet (f ∷ s) t ts w l h)) (over h)
+        | inr h ↦ rw (fits_yes n h.at_level f.level i.token h.is_level h.from h.below) h.next
+      ]
+
+  -- a tree stands over a stack, and the script goes on with a token: the machine takes the token
+  give_on : (s : List Frame) (n : ℕ) (t : Expr) (ts : List Item) → Formed s → Given n s t (i ∷ ts) r → Next (give s n t i) ts r
+  give_on [] n t ts w (u, b, c, g) = absurd g
+  give_on (f ∷ s) n t ts w g =
+      choose f s n t ts w g (λ k. leaves_on f.row.node f.row.at f.row.rest (with_tree f.row.fields t) s ts w.2 k (λ m u v h. give_on s m u ts v h))
 
   starts_on : (ts : List Item) (ss : List Statement) → Script (i ∷ ts) ss → r ≡ ss → Next (machine.starts i.token i.at) ts r
   starts_on ts ss (grammar.blank (grammar.finish e)) q = rw e (tt, q)
@@ -361,23 +313,20 @@ module _ (i : Item) (r : List Statement) where
   starts_on ts ss (grammar.statement (grammar.assign (grammar.target_name e index rest) a l) ends) q =
       rw e (inr (_, _, _, index, (_, _, up rest there, (a, (_, _, l, (_, ends, q))))))
   starts_on ts ss (grammar.statement (grammar.assign (grammar.target_view v rest) a l) ends) q =
-      let x = view_on mode.Place (frame.Target ∷ []) _ ts _ v (_, _, up rest there, (a, (_, _, l, (_, ends, q)))) in rw x.1 x.2
+      let x = view_on mode.Place (target i.at) _ ts _ v (_, _, up rest there, (a, (_, _, l, (_, ends, q)))) in rw x.1 x.2
 
   named_on : (w : Word) (ts : List Item) → Completes (state.Named w) (i ∷ ts) r → Next (machine.named i.token i.at w) ts r
   named_on w ts (inl (e, k)) = rw e k
   named_on w ts (inr (at, cuts, b, grammar.bracketed e l, g)) = rw e (cuts, b, l, g)
 
   -- no value begins with `gather`
-  binds_value : (k : Token) (w : Word) (ts : List Item) → Next (machine.begins_value k i.at (frame.Value (head.Bind w) ∷ [])) ts r → Next (machine.binds k i.at w) ts r
+  binds_value : (k : Token) (w : Word) (ts : List Item) → Next (machine.begins mode.Value k i.at (bound w)) ts r → Next (machine.binds k i.at w) ts r
   binds_value (token.Keyword keyword.Gather) w ts k = absurd k
   binds_value _ w ts k = k
 
   binds_on : (w : Word) (ts : List Item) → Completes (state.Bound w) (i ∷ ts) r → Next (machine.binds i.token i.at w) ts r
-  binds_on w ts (inl (t, b, l, k)) = binds_value i.token w ts (enter (frame.Value (head.Bind w) ∷ []) 9 9 t t ts b b l there refl k)
+  binds_on w ts (inl (t, b, l, k)) = binds_value i.token w ts (enter (bound w) 9 9 t t ts b b l there refl k)
   binds_on w ts (inr (e, k)) = rw e k
-
-  asks_on : (f : Role) (at : Place) (ts : List Item) → Completes (state.Opens f at) (i ∷ ts) r → Next (machine.asks_first i.token f at) ts r
-  asks_on f at ts (e, k) = rw e k
 
   ended_on : (ts : List Item) (ss : List Statement) → Ends (i ∷ ts) ss → r ≡ ss → Next (machine.ended i.token) ts r
   ended_on ts ss (grammar.finish e) q = rw e (tt, q)
@@ -387,11 +336,8 @@ module _ (i : Item) (r : List Statement) where
   forward state.Start ts f k = starts_on ts r k refl
   forward (state.Named w) ts f k = named_on w ts k
   forward (state.Bound w) ts f k = binds_on w ts k
-  forward (state.Opens x at) ts f k = asks_on x at ts k
   forward state.Delete ts f (x, e, (ss, ends, q)) = rw e (ss, ends, q)
   forward state.Ended ts f k = ended_on ts r k refl
-  forward (state.Want m s) ts f k = begins_on m s ts f.0 k
-  forward (state.Call m c at s) ts f (e, k) = rw e k
   forward (state.Have n t s) ts f k = give_on s n t ts f.1 k
-  forward (state.Fill n at p ps g s) ts f k = take_on n at p ps g s i ts r k
+  forward (state.Fill p w s) ts f k = take_on w.node w.at p w.rest w.fields s ts f.1 k
   forward state.Finished ts f (e, q) = absurd e

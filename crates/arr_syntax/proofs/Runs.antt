@@ -6,33 +6,28 @@ use Rattle.arr_syntax.specs.declared.token.Token.{Token}
 use Rattle.arr_syntax.specs.declared.token.Token.TheVariants as token
 use Rattle.arr_syntax.specs.declared.state.Mode.{Mode}
 use Rattle.arr_syntax.specs.declared.state.Mode.TheVariants as mode
-use Rattle.arr_syntax.specs.declared.state.Callee.{Callee}
-use Rattle.arr_syntax.specs.declared.state.Callee.TheVariants as callee
 use Rattle.arr_syntax.specs.declared.state.Node.{Node}
 use Rattle.arr_syntax.specs.declared.state.Node.TheVariants as node
 use Rattle.arr_syntax.specs.declared.state.Fields.{Fields}
+use Rattle.arr_syntax.specs.declared.state.Field.{Field}
+use Rattle.arr_syntax.specs.declared.state.Field.TheVariants as field
 use Rattle.arr_syntax.specs.declared.state.Part.{Part}
 use Rattle.arr_syntax.specs.declared.state.Part.TheVariants as part
-use Rattle.arr_syntax.specs.declared.state.Role.{Role}
-use Rattle.arr_syntax.specs.declared.state.Role.TheVariants as role
 use Rattle.arr_syntax.specs.declared.state.Frame.{Frame}
-use Rattle.arr_syntax.specs.declared.state.Frame.TheVariants as frame
 use Rattle.arr_syntax.specs.declared.state.State.{State}
 use Rattle.arr_syntax.specs.declared.state.State.TheVariants as state
 use Rattle.arr_syntax.specs.declared.state.Move.{Move}
 use Rattle.arr_syntax.specs.declared.state.Move.TheVariants as move
 use Rattle.arr_syntax.specs.declared.state.Filled.TheVariants as filled
-use Rattle.arr_syntax.specs.declared.tree.Code16.TheVariants as code
 use Rattle.arr_syntax.specs.declared.tree.Expr.{Expr}
 use Rattle.arr_syntax.specs.declared.tree.Statement.{Statement}
 use Rattle.arr_syntax.specs.declared.refusal.Kind.{Kind}
 use Rattle.arr_syntax.specs.declared.refusal.Kind.TheVariants.{Unexpected}
 use Rattle.arr_syntax.specs.declared.refusal.ParseFault.{ParseFault}
 use Rattle.arr_syntax.specs.declared.refusal.ParseFault.TheVariants.{Refused, NoMemory}
-use Rattle.arr_syntax.specs.Grammar.{unary_at, binary_at}
 use Rattle.arr_syntax.specs.Limits.{open_after, used_after}
 use Rattle.arr_syntax.specs.Machine as machine
-use Rattle.arr_syntax.specs.Machine.{step, give, fits, goes, leaves, fill, take_part, onward, first_part, fresh, again}
+use Rattle.arr_syntax.specs.Machine.{step, give, fits, goes, leaves, fill, take, with_tree, level_of, tree_of, stated}
 use Rattle.arr_syntax.specs.Run.{run, own_fault, count_fault, open_fault, outcome, Reading, is_stuck, is_end, behind, Refuses}
 use Rattle.arr_syntax.specs.Refused.{IfRefused, IsRefused}
 use Rattle.arr_syntax.proofs.Reading.{run_one, run_end, run_refuses}
@@ -80,61 +75,42 @@ Last move.Stuck = Unit {0}
 Last (move.On st) = st ≡ state.Finished
 Last (move.Emit s st) = st ≡ state.Finished
 
-fill_end : (p : Part) (at : Place) (f : Fields) → fill p token.End at f ≡ filled.Stuck
-fill_end part.Open at f = refl
+fill_end : (p : Field) (at : Place) (f : Fields) → fill p token.End at f ≡ filled.Stuck
+fill_end field.Open at f = refl
 fill_end _ at f = refl
-
-take_end : (n : Node) (at : Place) (ps : List Part) (f : Fields) (s : List Frame) (i : Item) → i.token ≡ token.End → Last (take_part n at ps f s i)
-take_end n at [] f s i e = tt
-take_end n at (p ∷ ps) f s i e = rw (e, fill_end p i.at f) tt
-
-cond_last : (b : Bool) (x y : Move) → Last x → Last y → Last (cond b x y)
-cond_last true x y h g = h
-cond_last false x y h g = g
-
-argued_end : (c : Callee) (at : Place) (s : List Frame) (t : Expr) (i : Item) → i.token ≡ token.End → Last (machine.argued c at s t i)
-argued_end (callee.Fold c) at s t i e = take_end (node.Fold c t) at (machine.parts_of (node.Fold c t)) (fresh at) s i e
-argued_end callee.Absolute at s t i e = take_end (node.Absolute t) at (machine.parts_of (node.Absolute t)) (fresh at) s i e
-argued_end (callee.Cast to) at s t i e = take_end (node.Cast to t) at (machine.parts_of (node.Cast to t)) (fresh at) s i e
-argued_end (callee.First c) at s t i e = rw e tt
-argued_end (callee.Second c l) at s t i e = take_end (node.Pair c l t) at (machine.parts_of (node.Pair c l t)) (fresh at) s i e
-argued_end (callee.View v) at s t i e = take_end (node.View v t) at (machine.parts_of (node.View v t)) (fresh at) s i e
-
-answers_end : (f : Role) (at : Place) (t : Expr) (i : Item) → i.token ≡ token.End → Last (machine.answers f at t i.token)
-answers_end (role.Source w) at t i e = rw e tt
-answers_end (role.Index w s) at t i e = rw e tt
-answers_end role.Target at t i e = rw e tt
-answers_end (role.Places s) at t i e = rw e tt
-answers_end (role.Values s x) at t i e = rw e tt
-
-give_last : (f : Frame) (s : List Frame) (n : ℕ) (t : Expr) (i : Item) → i.token ≡ token.End → Last (leaves f s t i (λ m u. give s m u i)) → Last (give (f ∷ s) n t i)
-give_last f s n t i e k = cond_last (fits n i.token f) (goes i.token i.at (f ∷ s) t) (leaves f s t i (λ m u. give s m u i)) (rw e tt) k
-
-give_end : (s : List Frame) (n : ℕ) (t : Expr) (i : Item) → i.token ≡ token.End → Last (give s n t i)
-give_end [] n t i e = tt
-give_end (frame.Value h ∷ s) n t i e = give_last (frame.Value h) s n t i e (rw e refl)
-give_end (frame.Target ∷ s) n t i e = give_last frame.Target s n t i e (rw e tt)
-give_end (frame.Role f at ∷ s) n t i e = give_last (frame.Role f at) s n t i e (answers_end f at t i e)
-give_end (frame.Bracket ∷ s) n t i e = give_last frame.Bracket s n t i e (rw e tt)
-give_end (frame.Argument m c at ∷ s) n t i e = give_last (frame.Argument m c at) s n t i e (argued_end c at s t i e)
-give_end (frame.Invert at ∷ s) n t i e = give_last (frame.Invert at) s n t i e (give_end s 2 (unary_at at code.Invert t) i e)
-give_end (frame.Operand m c at l ∷ s) n t i e = give_last (frame.Operand m c at l) s n t i e (give_end s (again m) (binary_at at c l t) i e)
 
 begins_end : (m : Mode) (at : Place) (s : List Frame) → Last (machine.begins m token.End at s)
 begins_end mode.Value at s = tt
 begins_end mode.Place at s = tt
 
+take_end : (n : Node) (at : Place) (p : Part) (ps : List Part) (f : Fields) (s : List Frame) (i : Item) → i.token ≡ token.End → Last (take n at p ps f s i)
+take_end n at (part.Tree m) ps f s i e = rw e (begins_end m i.at (machine.frame n at m ps f ∷ s))
+take_end n at (part.Field p) ps f s i e = rw (e, fill_end p i.at f) tt
+
+cond_last : (b : Bool) (x y : Move) → Last x → Last y → Last (cond b x y)
+cond_last true x y h g = h
+cond_last false x y h g = g
+
+leaves_end : (n : Node) (at : Place) (ps : List Part) (f : Fields) (s : List Frame) (i : Item) → i.token ≡ token.End → ((m : ℕ) (u : Expr) → Last (give s m u i)) →
+    Last (leaves n at ps f s i (λ m u. give s m u i))
+leaves_end n at (p ∷ ps) f s i e back = take_end n at p ps f s i e
+leaves_end (node.Tree n) at [] f s i e back = back (level_of n) (tree_of n at f)
+leaves_end (node.Statement x) at [] f s i e back = rw e refl
+
+give_end : (s : List Frame) (n : ℕ) (t : Expr) (i : Item) → i.token ≡ token.End → Last (give s n t i)
+give_end [] n t i e = tt
+give_end (f ∷ s) n t i e =
+    cond_last (fits n i.token f.level) (goes i.token i.at (f ∷ s) t) (leaves f.row.node f.row.at f.row.rest (with_tree f.row.fields t) s i (λ m u. give s m u i)) (rw e tt)
+    (leaves_end f.row.node f.row.at f.row.rest (with_tree f.row.fields t) s i e (λ m u. give_end s m u i e))
+
 pub step_end : (st : State) (i : Item) → i.token ≡ token.End → Last (step st i)
 step_end state.Start i e = rw e refl
 step_end (state.Named w) i e = rw e tt
 step_end (state.Bound w) i e = rw e tt
-step_end (state.Opens f at) i e = rw e tt
 step_end state.Delete i e = rw e tt
 step_end state.Ended i e = rw e refl
-step_end (state.Want m s) i e = rw e (begins_end m i.at s)
-step_end (state.Call m c at s) i e = rw e tt
 step_end (state.Have n t s) i e = give_end s n t i e
-step_end (state.Fill n at p ps f s) i e = take_end n at (p ∷ ps) f s i e
+step_end (state.Fill p w s) i e = take_end w.node w.at p w.rest w.fields s i e
 step_end state.Finished i e = tt
 
 pub on_end : (st next : State) (i : Item) → step st i ≡ move.On next → i.token ≡ token.End → next ≡ state.Finished

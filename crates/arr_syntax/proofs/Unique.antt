@@ -2,18 +2,16 @@
 use Rattle.std.proofs.Common.{◌≡◌, ℕ, zero, suc, ℤ, ◌<◌, List, [], ◌∷◌, ◌++◌, refl, sym, ap, subst, arith, ◌∙◌, ◌⊎◌, inl, inr}
 use Rattle.arr_syntax.specs.declared.refusal.Place.{Place}
 use Rattle.arr_syntax.specs.declared.token.Item.{Item}
-use Rattle.arr_syntax.specs.declared.token.View.TheVariants.{Broadcast, Transpose, Reshape, Strided}
 use Rattle.arr_syntax.specs.declared.state.Mode.{Mode}
 use Rattle.arr_syntax.specs.declared.state.Mode.TheVariants as mode
-use Rattle.arr_syntax.specs.declared.state.Callee.{Callee}
-use Rattle.arr_syntax.specs.declared.state.Callee.TheVariants as callee
+use Rattle.arr_syntax.specs.declared.state.Node.{Node}
+use Rattle.arr_syntax.specs.declared.state.Node.TheVariants as node
 use Rattle.arr_syntax.specs.declared.state.Fields.{Fields}
+use Rattle.arr_syntax.specs.declared.state.Field.{Field}
+use Rattle.arr_syntax.specs.declared.state.Field.TheVariants as field
 use Rattle.arr_syntax.specs.declared.state.Part.{Part}
 use Rattle.arr_syntax.specs.declared.state.Part.TheVariants as part
-use Rattle.arr_syntax.specs.declared.state.Role.{Role}
-use Rattle.arr_syntax.specs.declared.state.Role.TheVariants as role
 use Rattle.arr_syntax.specs.declared.state.Frame.{Frame}
-use Rattle.arr_syntax.specs.declared.state.Frame.TheVariants as frame
 use Rattle.arr_syntax.specs.declared.state.State.{State}
 use Rattle.arr_syntax.specs.declared.state.State.TheVariants as state
 use Rattle.arr_syntax.specs.declared.state.Move.{Move}
@@ -27,10 +25,10 @@ use Rattle.arr_syntax.specs.declared.refusal.Refusal.{Refusal}
 use Rattle.arr_syntax.specs.declared.refusal.ParseFault.{ParseFault}
 use Rattle.arr_syntax.specs.declared.refusal.ParseFault.TheVariants.{Refused, NoMemory}
 use Rattle.arr_syntax.specs.Grammar as grammar
-use Rattle.arr_syntax.specs.Grammar.{Listed, Length, Stride, Slice, Ends, Level, Placed, Primary, ViewCall, Rest, Script, OneStatement, unary_at, binary_at}
-use Rattle.arr_syntax.specs.Machine.{step}
+use Rattle.arr_syntax.specs.Grammar.{Listed, Length, Stride, Slice, Ends, Level, Placed, Primary, ViewCall, Rest, Script, OneStatement}
+use Rattle.arr_syntax.specs.Machine.{step, with_tree, wanted, level_of}
 use Rattle.arr_syntax.specs.Refused.{Fits, rank, IsRefused, IsScript, IfRefused}
-use Rattle.arr_syntax.proofs.Completes.{PartIn, Fills, Climb, there, up, Supplied, Argued, After, Given, Wants, Completes, Next, WellFormed, WellMoved}
+use Rattle.arr_syntax.proofs.Completes.{FieldIn, Climb, there, up, Tree, After, Given, RowIn, Completes, Next, WellFormed, WellMoved}
 use Rattle.arr_syntax.proofs.Forward.{forward}
 use Rattle.arr_syntax.proofs.Completable.{step_formed}
 
@@ -56,56 +54,25 @@ module _ (K : Fields → List Item → Type 0) where
   slices_over xs b (grammar.last x e) = slice_over _ _ x
   slices_over xs b (grammar.and_more x e l) = slice_over _ _ x
 
-  part_over : (p : Part) (f : Fields) → PartIn p f [] K → ⊥
-  part_over part.Literal f (at, m, n, b, l, k) = elim l [ ]
-  part_over part.Shape f (at, xs, b, l, k) = elim l [ ]
-  part_over part.Length f (xs, b, l, k) = lengths_over xs b l
-  part_over part.Strides f (at, xs, b, l, k) = elim l [ ]
-  part_over part.Stride f (xs, b, l, k) = strides_over xs b l
-  part_over part.Start f (xs, b, l, k) = slices_over xs b l
-  part_over (part.Stop c) f (o, b, grammar.no_bound, inl k) = k
-  part_over (part.Stop c) f (o, b, grammar.no_bound, inr k) = k
-  part_over (part.AfterStop c) f (inl k) = k
-  part_over (part.AfterStop c) f (inr k) = k
-  part_over (part.Step c) f (o, b, grammar.no_step, k) = k
-  part_over (part.Step c) f (o, b, grammar.one_step l, k) = elim l [ ]
-  part_over _ f k = k
+  field_over : (p : Field) (f : Fields) → FieldIn p f [] K → ⊥
+  field_over field.Literal f (at, m, n, b, l, k) = elim l [ ]
+  field_over field.Shape f (at, xs, b, l, k) = elim l [ ]
+  field_over field.Length f (xs, b, l, k) = lengths_over xs b l
+  field_over field.Strides f (at, xs, b, l, k) = elim l [ ]
+  field_over field.Stride f (xs, b, l, k) = strides_over xs b l
+  field_over field.Start f (xs, b, l, k) = slices_over xs b l
+  field_over (field.Stop c) f (o, b, grammar.no_bound, inl k) = k
+  field_over (field.Stop c) f (o, b, grammar.no_bound, inr k) = k
+  field_over (field.AfterStop c) f (inl k) = k
+  field_over (field.AfterStop c) f (inr k) = k
+  field_over (field.Step c) f (o, b, grammar.no_step, k) = k
+  field_over (field.Step c) f (o, b, grammar.one_step l, k) = elim l [ ]
+  field_over _ f k = k
 
 climb_over : (n m : ℕ) (t u : Expr) (b : List Item) → Climb n m t [] u b → b ≡ []
 climb_over n m t u b there = refl
 climb_over n m t u b (up grammar.stop c) = climb_over _ m _ u b c
 climb_over n m t u b (up (grammar.index i rest) c) = elim i [ ]
-
-argued_over : (c : Callee) (at : Place) (u : Expr) (back : ℕ → Expr → List Item → Type 0) → Argued c at u [] back → ⊥
-argued_over (callee.Fold c) at u back k = k
-argued_over callee.Absolute at u back k = k
-argued_over (callee.Cast to) at u back k = k
-argued_over (callee.First c) at u back k = k
-argued_over (callee.Second c l) at u back k = k
-argued_over (callee.View Broadcast) at u back k = k
-argued_over (callee.View Transpose) at u back k = k
-argued_over (callee.View Reshape) at u back k = k
-argued_over (callee.View Strided) at u back k = k
-
-supplied_over : (f : Role) (at : Place) (t : Expr) (r : List Statement) → Supplied f at t [] r → ⊥
-supplied_over (role.Source w) at t r k = k
-supplied_over (role.Index w s) at t r k = k
-supplied_over role.Target at t r k = k
-supplied_over (role.Places s) at t r k = k
-supplied_over (role.Values s x) at t r k = k
-
-after_over : (s : List Frame) (t : Expr) (r : List Statement) → After s t [] r → ⊥
-after_over [] t r k = k
-after_over (frame.Value h ∷ s) t r (ss, ends, q) = elim ends [ ]
-after_over (frame.Target ∷ s) t r k = k
-after_over (frame.Role f at ∷ s) t r k = supplied_over f at t r k
-after_over (frame.Bracket ∷ s) t r k = k
-after_over (frame.Argument m c at ∷ s) t r k = argued_over c at t _ k
-after_over (frame.Invert at ∷ s) t r (u, b, c, g) = after_over s u r (subst (λ (v : List Item). After s u v r) (climb_over _ _ _ u b c) g)
-after_over (frame.Operand n c at l ∷ s) t r (u, b, climb, g) = after_over s u r (subst (λ (v : List Item). After s u v r) (climb_over _ _ _ u b climb) g)
-
-given_over : (n : ℕ) (s : List Frame) (t : Expr) (r : List Statement) → Given n s t [] r → ⊥
-given_over n s t r (u, b, c, g) = after_over s u r (subst (λ (v : List Item). After s u v r) (climb_over _ _ _ u b c) g)
 
 view_over : (m : Mode) (t : Expr) (b : List Item) → ViewCall m [] t b → ⊥
 view_over m t b k = elim k [ ]
@@ -121,9 +88,22 @@ level_over n t b (grammar.more l rest) = level_over _ _ _ l
 placed_over : (t : Expr) (b : List Item) → Placed [] t b → ⊥
 placed_over t b (grammar.placed_view v rest) = view_over _ _ _ v
 
-wants_over : (m : Mode) (s : List Frame) (r : List Statement) → Wants m s [] r → ⊥
-wants_over mode.Value s r (t, b, l, g) = level_over _ t b l
-wants_over mode.Place s r (t, b, l, g) = placed_over t b l
+tree_over : (m : Mode) (n : ℕ) (t : Expr) (b : List Item) → Tree m n [] t b → ⊥
+tree_over mode.Value n t b l = level_over n t b l
+tree_over mode.Place n t b l = placed_over t b l
+
+row_over : (n : Node) (at : Place) (ps : List Part) (f : Fields) (s : List Frame) (r : List Statement) → ((u : Expr) → After s u [] r → ⊥) → RowIn n at ps f s [] r → ⊥
+row_over n at (part.Tree m ∷ ps) f s r below (t, b, l, k) = tree_over m _ t b l
+row_over n at (part.Field p ∷ ps) f s r below k = field_over _ p f k
+row_over (node.Tree n) at [] f s r below (u, b, c, g) = below u (subst (λ (v : List Item). After s u v r) (climb_over (level_of n) (wanted s) _ u b c) g)
+row_over (node.Statement x) at [] f s r below (ss, ends, q) = elim ends [ ]
+
+after_over : (s : List Frame) (t : Expr) (r : List Statement) → After s t [] r → ⊥
+after_over [] t r k = k
+after_over (f ∷ s) t r k = row_over f.row.node f.row.at f.row.rest (with_tree f.row.fields t) s r (λ u h. after_over s u r h) k
+
+given_over : (n : ℕ) (s : List Frame) (t : Expr) (r : List Statement) → Given n s t [] r → ⊥
+given_over n s t r (u, b, c, g) = after_over s u r (subst (λ (v : List Item). After s u v r) (climb_over _ _ _ u b c) g)
 
 statement_over : (st : Statement) (b : List Item) → OneStatement [] st b → ⊥
 statement_over st b (grammar.assign (grammar.target_view v rest) a l) = view_over _ _ _ v
@@ -136,15 +116,12 @@ over : (st : State) (r q : List Statement) → Completes st [] r → Completes s
 over state.Start r q h c = absurd (script_over r h)
 over (state.Named w) r q (inl h) c = absurd h
 over (state.Named w) r q (inr (at, cuts, b, index, g)) c = elim index [ ]
-over (state.Bound w) r q (inl (t, b, l, k)) c = absurd (level_over _ t b l)
+over (state.Bound w) r q (inl (t, b, l, k)) c = absurd (level_over 9 t b l)
 over (state.Bound w) r q (inr h) c = absurd h
-over (state.Opens f at) r q h c = absurd h
 over state.Delete r q h c = absurd h
 over state.Ended r q h c = elim h [ ]
-over (state.Want m s) r q h c = absurd (wants_over m s r h)
-over (state.Call m k at s) r q h c = absurd h
 over (state.Have n t s) r q h c = absurd (given_over n s t r h)
-over (state.Fill n at p ps f s) r q h c = absurd (part_over (λ g b. Fills ps g b _) p f h)
+over (state.Fill p w s) r q h c = absurd (row_over w.node w.at (p ∷ w.rest) w.fields s r (λ u g. after_over s u r g) h)
 over state.Finished r q h c = h.1 ∙ sym c.1
 
 next_unique : (ts : List Item) (m : Move) (r q : List Statement) → WellMoved m → Next m ts r → Next m ts q →

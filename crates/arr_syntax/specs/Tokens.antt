@@ -47,31 +47,26 @@ number_of n = if nat_lt n 18446744073709551616 then token.Number n else token.Wi
 abbrev pub word : List ℕ → List ℕ
 word bs = take_while is_word_byte bs
 
-abbrev pub statement_words : List (List ℕ × Keyword)
-statement_words = (codes "print", keyword.Print) ∷ (codes "del", keyword.Del) ∷ (codes "flush", keyword.Flush) ∷ (codes "gather", keyword.Gather) ∷ (codes "scatter", keyword.Scatter) ∷ []
+abbrev pub words : List (List ℕ × Keyword)
+words =
+    (codes "print", keyword.Print) ∷ (codes "del", keyword.Del) ∷ (codes "flush", keyword.Flush) ∷ (codes "gather", keyword.Gather) ∷ (codes "scatter", keyword.Scatter)
+    ∷ (codes "range", keyword.Range) ∷ (codes "full", keyword.Full) ∷ (codes "abs", keyword.Absolute)
+    ∷ (codes "minimum", keyword.Pair code.Minimum) ∷ (codes "maximum", keyword.Pair code.Maximum) ∷ (codes "broadcast", keyword.View Broadcast)
+    ∷ (codes "transpose", keyword.View Transpose) ∷ (codes "reshape", keyword.View Reshape) ∷ (codes "strided", keyword.View Strided)
+    ∷ (codes "sum", keyword.Fold code.AddReduce) ∷ (codes "prod", keyword.Fold code.MultiplyReduce) ∷ (codes "min", keyword.Fold code.MinimumReduce)
+    ∷ (codes "max", keyword.Fold code.MaximumReduce) ∷ (codes "cumsum", keyword.Fold code.AddAccumulate) ∷ (codes "cumprod", keyword.Fold code.MultiplyAccumulate)
+    ∷ (codes "u8", keyword.Type U8) ∷ (codes "i32", keyword.Type I32) ∷ (codes "i64", keyword.Type I64) ∷ (codes "u64", keyword.Type U64) ∷ []
 
-abbrev pub call_words : List (List ℕ × Keyword)
-call_words =
-    (codes "range", keyword.Range) ∷ (codes "full", keyword.Full) ∷ (codes "abs", keyword.Absolute)
-    ∷ (codes "minimum", keyword.Pair code.Minimum) ∷ (codes "maximum", keyword.Pair code.Maximum)
-    ∷ (codes "broadcast", keyword.View Broadcast) ∷ (codes "transpose", keyword.View Transpose)
-    ∷ (codes "reshape", keyword.View Reshape) ∷ (codes "strided", keyword.View Strided) ∷ []
+abbrev pub named : List ℕ → List ℕ → Keyword → Option Keyword
+named w text k = if bytes_eq w text then Some k else None
 
-abbrev pub fold_words : List (List ℕ × Keyword)
-fold_words =
-    (codes "sum", keyword.Fold code.AddReduce) ∷ (codes "prod", keyword.Fold code.MultiplyReduce)
-    ∷ (codes "min", keyword.Fold code.MinimumReduce) ∷ (codes "max", keyword.Fold code.MaximumReduce)
-    ∷ (codes "cumsum", keyword.Fold code.AddAccumulate) ∷ (codes "cumprod", keyword.Fold code.MultiplyAccumulate) ∷ []
-
-abbrev pub type_words : List (List ℕ × Keyword)
-type_words = (codes "u8", keyword.Type U8) ∷ (codes "i32", keyword.Type I32) ∷ (codes "i64", keyword.Type I64) ∷ (codes "u64", keyword.Type U64) ∷ []
-
-abbrev pub find_word : List ℕ → List (List ℕ × Keyword) → Option Keyword
-find_word w [] = None
-find_word w (entry ∷ entries) = if bytes_eq w entry.0 then Some entry.1 else find_word w entries
+-- the first keyword whose text the word is, where none was found before
+abbrev pub find_word : List ℕ → Option Keyword → List (List ℕ × Keyword) → Option Keyword
+find_word w found [] = found
+find_word w found (entry ∷ entries) = find_word w (option_or found (named w entry.0 entry.1)) entries
 
 abbrev pub reserved : List ℕ → Option Keyword
-reserved w = option_or (option_or (option_or (find_word w statement_words) (find_word w call_words)) (find_word w fold_words)) (find_word w type_words)
+reserved w = find_word w None words
 
 abbrev pub name_of_length : List ℕ → Token
 name_of_length w = if nat_le (length w) 64 then token.Name w else token.Long

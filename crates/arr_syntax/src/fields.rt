@@ -1,319 +1,217 @@
-ghost use Rattle.std.specs.Prelude.{◌≡◌, IfOk};
-ghost use Rattle.arr_syntax.specs.Machine.{fresh, with_cut, fill, fill_open, fill_close, fill_comma, fill_number, fill_type_or_close, fill_last_type, fill_literal, fill_size, fill_shape, fill_length, fill_more, fill_strides, fill_stride, fill_negative_stride, fill_start, fill_colon, fill_after_step, fill_after_stop, fill_stop, fill_step, fill_negative_step};
+ghost use Rattle.std.specs.Prelude.{◌≡◌, IfOk, None};
+ghost use Rattle.arr_syntax.specs.Grammar.{cut};
+ghost use Rattle.arr_syntax.specs.Machine.{fresh, and_tree, with_tree, turns, whole, fill_behind, fill_number, fill_sign, fill};
 
-use crate::lists::Slices;
+use crate::node::literal;
 use crate::refusal::Place;
-use crate::state::{Fields, Filled, Part};
+use crate::state::{Field, Fields, Filled, Trees};
 use crate::token::{Keyword, Sign, Token};
-use crate::tree::{Cut, Type4};
-use sqlite_items::Items;
+use crate::tree::{Cut, Expr, Lengths, Steps, Type4};
+use sqlite_items::{Boxed, Items};
 use std::alloc::{AllocError, Global};
 
+impl Trees {
+    /// These trees and one more.
+    fn and(self, tree: Boxed<Expr>) -> Trees
+        ensures { result ≡ and_tree self tree }
+    {
+        match self {
+            Trees::None => Trees::One(tree),
+            Trees::One(first) => Trees::Two(first, tree),
+            Trees::Two(first, second) => Trees::Three(first, second, tree),
+            Trees::Three(first, second, _third) => Trees::Three(first, second, tree),
+        }
+    }
+}
+
 impl Fields {
-    /// No field is read.
+    /// Nothing is read.
     pub fn new(alloc: Global, at: Place) -> Fields
         ensures { result ≡ fresh at }
     {
         Fields {
+            trees: Trees::None,
             number: 0,
             number_at: at,
-            negative: false,
-            size: 0,
-            size_at: at,
             to: Type4::I64,
-            shape_at: at,
-            shape: Items::new(alloc),
-            strides_at: at,
-            strides: Items::new(alloc),
-            cuts: Slices::new(Vec::new(alloc)),
+            equals: at,
+            shape: Lengths {
+                at,
+                list: Items::new(alloc),
+            },
+            strides: Steps {
+                at,
+                list: Items::new(alloc),
+            },
+            cuts: Items::new(alloc),
         }
     }
 
-    fn open(self, token: Token) -> Filled
-        ensures { result ≡ fill_open token self }
+    /// These and one more tree.
+    pub fn with(mut self, tree: Boxed<Expr>) -> Fields
+        ensures { result ≡ with_tree self tree }
     {
-        match token {
-            Token::Sign(Sign::Open) => Filled::Over(self),
-            _ => Filled::Stuck,
-        }
+        let trees = std::mem::replace(&mut self.trees, Trees::None);
+        self.trees = trees.and(tree);
+        self
     }
 
-    fn close(self, token: Token) -> Filled
-        ensures { result ≡ fill_close token self }
+    fn number(
+        mut self,
+        alloc: Global,
+        field: Field,
+        n: u64,
+        at: Place,
+    ) -> Result<Filled, AllocError>
+        ensures { IfOk result (λ x. x ≡ fill_number field n at self) }
     {
-        match token {
-            Token::Sign(Sign::Close) => Filled::Over(self),
-            _ => Filled::Stuck,
-        }
-    }
-
-    fn comma(self, token: Token) -> Filled
-        ensures { result ≡ fill_comma token self }
-    {
-        match token {
-            Token::Sign(Sign::Comma) => Filled::Over(self),
-            _ => Filled::Stuck,
-        }
-    }
-
-    fn number(mut self, token: Token, at: Place) -> Filled
-        ensures { result ≡ fill_number token at self }
-    {
-        match token {
-            Token::Number(n) => {
+        match field {
+            Field::Number => {
                 self.number = n;
                 self.number_at = at;
-                Filled::Over(self)
+                Ok(Filled::Over(self))
             }
-            _ => Filled::Stuck,
-        }
-    }
-
-    fn type_or_close(self, token: Token) -> Filled
-        ensures { result ≡ fill_type_or_close token self }
-    {
-        match token {
-            Token::Sign(Sign::Close) => Filled::Over(self),
-            Token::Sign(Sign::Comma) => Filled::Turns(Part::LastType, self),
-            _ => Filled::Stuck,
-        }
-    }
-
-    fn last_type(mut self, token: Token) -> Filled
-        ensures { result ≡ fill_last_type token self }
-    {
-        match token {
-            Token::Keyword(Keyword::Type(to)) => {
-                self.to = to;
-                Filled::Turns(Part::Close, self)
+            Field::Literal => {
+                let tree = literal(alloc, at, false, n)?;
+                Ok(Filled::Over(self.with(tree)))
             }
-            _ => Filled::Stuck,
-        }
-    }
-
-    fn literal(mut self, token: Token, at: Place) -> Filled
-        ensures { result ≡ fill_literal token at self }
-    {
-        match token {
-            Token::Number(n) => {
-                self.negative = false;
-                self.size = n;
-                self.size_at = at;
-                Filled::Over(self)
+            Field::Size(minus_at) => {
+                let tree = literal(alloc, minus_at, true, n)?;
+                Ok(Filled::Over(self.with(tree)))
             }
-            Token::Sign(Sign::Minus) => {
-                self.negative = true;
-                self.size_at = at;
-                Filled::Turns(Part::Size, self)
+            Field::Length => {
+                self.shape.list.push(n)?;
+                Ok(Filled::Turns(Field::MoreLengths, self))
             }
-            _ => Filled::Stuck,
-        }
-    }
-
-    fn size(mut self, token: Token) -> Filled
-        ensures { result ≡ fill_size token self }
-    {
-        match token {
-            Token::Number(n) => {
-                self.size = n;
-                Filled::Over(self)
+            Field::Stride => {
+                self.strides.list.push(i128::from(n))?;
+                Ok(Filled::Turns(Field::MoreStrides, self))
             }
-            _ => Filled::Stuck,
-        }
-    }
-
-    fn shape(mut self, token: Token, at: Place) -> Filled
-        ensures { result ≡ fill_shape token at self }
-    {
-        match token {
-            Token::Sign(Sign::OpenIndex) => {
-                self.shape_at = at;
-                Filled::Turns(Part::Length, self)
-            }
-            _ => Filled::Stuck,
-        }
-    }
-
-    fn length(mut self, token: Token) -> Result<Filled, AllocError>
-        ensures { IfOk result (λ x. x ≡ fill_length token self) }
-    {
-        match token {
-            Token::Number(n) => {
-                self.shape.push(n)?;
-                Ok(Filled::Turns(Part::MoreLengths, self))
+            Field::NegativeStride => {
+                self.strides.list.push(-i128::from(n))?;
+                Ok(Filled::Turns(Field::MoreStrides, self))
             }
             _ => Ok(Filled::Stuck),
         }
     }
 
-    /// Behind a member of a list, of which each member begins with this part.
-    fn more(self, token: Token, member: Part) -> Filled
-        ensures { result ≡ fill_more token member self }
+    fn sign(mut self, field: Field, sign: Sign, at: Place) -> Filled
+        ensures { result ≡ fill_sign field sign at self }
+    {
+        match (field, sign) {
+            (Field::Open, Sign::Open)
+            | (Field::Close | Field::TypeOrClose, Sign::Close)
+            | (Field::Comma, Sign::Comma)
+            | (Field::MoreLengths | Field::MoreStrides, Sign::CloseIndex) => Filled::Over(self),
+            (Field::Equals, Sign::Assign) => {
+                self.equals = at;
+                Filled::Over(self)
+            }
+            (Field::Shape, Sign::OpenIndex) => {
+                self.shape.at = at;
+                Filled::Turns(Field::Length, self)
+            }
+            (Field::Strides, Sign::OpenIndex) => {
+                self.strides.at = at;
+                Filled::Turns(Field::Stride, self)
+            }
+            _ => Filled::Stuck,
+        }
+    }
+
+    /// Behind a slice.
+    fn behind(self, token: Token) -> Filled
+        ensures { result ≡ fill_behind token self }
     {
         match token {
-            Token::Sign(Sign::Comma) => Filled::Turns(member, self),
+            Token::Sign(Sign::Comma) => Filled::Turns(Field::Start, self),
             Token::Sign(Sign::CloseIndex) => Filled::Over(self),
             _ => Filled::Stuck,
         }
     }
 
-    fn strides(mut self, token: Token, at: Place) -> Filled
-        ensures { result ≡ fill_strides token at self }
+    /// What a token makes of these where this field is wanted.
+    pub fn fill(
+        mut self,
+        alloc: Global,
+        field: Field,
+        token: Token,
+        at: Place,
+    ) -> Result<Filled, AllocError>
+        ensures { IfOk result (λ x. x ≡ fill field token at self) }
     {
-        match token {
-            Token::Sign(Sign::OpenIndex) => {
-                self.strides_at = at;
-                Filled::Turns(Part::Stride, self)
-            }
-            _ => Filled::Stuck,
+        if let Some(next) = turns(field, &token, at) {
+            return Ok(Filled::Turns(next, self));
         }
-    }
-
-    fn stride(mut self, token: Token) -> Result<Filled, AllocError>
-        ensures { IfOk result (λ x. x ≡ fill_stride token self) }
-    {
-        match token {
-            Token::Number(n) => {
-                self.strides.push(i128::from(n))?;
-                Ok(Filled::Turns(Part::MoreStrides, self))
-            }
-            Token::Sign(Sign::Minus) => Ok(Filled::Turns(Part::NegativeStride, self)),
-            _ => Ok(Filled::Stuck),
+        if let Some(cut) = whole(field) {
+            self.cuts.push(cut)?;
+            return Ok(self.behind(token));
         }
-    }
-
-    fn negative_stride(mut self, token: Token) -> Result<Filled, AllocError>
-        ensures { IfOk result (λ x. x ≡ fill_negative_stride token self) }
-    {
-        match token {
-            Token::Number(n) => {
-                self.strides.push(-i128::from(n))?;
-                Ok(Filled::Turns(Part::MoreStrides, self))
+        match (field, token) {
+            (field, Token::Number(n)) => self.number(alloc, field, n, at),
+            (field, Token::Sign(sign)) => Ok(self.sign(field, sign, at)),
+            (Field::LastType, Token::Keyword(Keyword::Type(to))) => {
+                self.to = to;
+                Ok(Filled::Turns(Field::Close, self))
             }
             _ => Ok(Filled::Stuck),
         }
     }
+}
 
-    fn start(self, token: Token) -> Filled
-        ensures { result ≡ fill_start token self }
-    {
-        match token {
-            Token::Number(n) => Filled::Turns(
-                Part::Colon(Cut {
-                    start: Some(n),
-                    stop: None,
-                    step: None,
-                }),
-                self,
-            ),
-            Token::Sign(Sign::Colon) => Filled::Turns(
-                Part::Stop(Cut {
-                    start: None,
-                    stop: None,
-                    step: None,
-                }),
-                self,
-            ),
-            _ => Filled::Stuck,
-        }
+/// A slice of which nothing is read, or its start.
+fn from(start: Option<u64>) -> Cut
+    ensures { result ≡ cut start None None }
+{
+    Cut {
+        start,
+        stop: None,
+        step: None,
     }
+}
 
-    fn colon(self, token: Token, cut: Cut) -> Filled
-        ensures { result ≡ fill_colon token cut self }
-    {
-        match token {
-            Token::Sign(Sign::Colon) => Filled::Turns(Part::Stop(cut), self),
-            _ => Filled::Stuck,
+/// What a field goes on to whose token is not kept elsewhere.
+fn turns(field: Field, token: &Token, at: Place) -> Option<Field>
+    ensures { result ≡ turns field token.now at }
+{
+    match (field, token) {
+        (Field::TypeOrClose, Token::Sign(Sign::Comma)) => Some(Field::LastType),
+        (Field::Literal, Token::Sign(Sign::Minus)) => Some(Field::Size(at)),
+        (Field::MoreLengths, Token::Sign(Sign::Comma)) => Some(Field::Length),
+        (Field::Stride, Token::Sign(Sign::Minus)) => Some(Field::NegativeStride),
+        (Field::MoreStrides, Token::Sign(Sign::Comma)) => Some(Field::Stride),
+        (Field::Start, Token::Number(n)) => Some(Field::Colon(from(Some(*n)))),
+        (Field::Start, Token::Sign(Sign::Colon)) => Some(Field::Stop(from(None))),
+        (Field::Colon(cut), Token::Sign(Sign::Colon)) => Some(Field::Stop(cut)),
+        (Field::Stop(cut), Token::Number(n)) => Some(Field::AfterStop(Cut {
+            stop: Some(*n),
+            ..cut
+        })),
+        (Field::Stop(cut), Token::Sign(Sign::Colon)) => {
+            Some(Field::Step(Cut { stop: None, ..cut }))
         }
+        (Field::AfterStop(cut), Token::Sign(Sign::Colon)) => Some(Field::Step(cut)),
+        (Field::Step(cut), Token::Number(n)) => Some(Field::AfterStep(Cut {
+            step: Some(i128::from(*n)),
+            ..cut
+        })),
+        (Field::Step(cut), Token::Sign(Sign::Minus)) => Some(Field::NegativeStep(cut)),
+        (Field::NegativeStep(cut), Token::Number(n)) => Some(Field::AfterStep(Cut {
+            step: Some(-i128::from(*n)),
+            ..cut
+        })),
+        _ => None,
     }
+}
 
-    /// Behind a slice, which joins the others.
-    fn after_step(mut self, token: Token, cut: Cut) -> Result<Filled, AllocError>
-        ensures { IfOk result (λ x. x ≡ fill_after_step token cut self) }
-    {
-        self.cuts.push(cut)?;
-        Ok(self.more(token, Part::Start))
-    }
-
-    fn after_stop(self, token: Token, cut: Cut) -> Result<Filled, AllocError>
-        ensures { IfOk result (λ x. x ≡ fill_after_stop token cut self) }
-    {
-        match token {
-            Token::Sign(Sign::Colon) => Ok(Filled::Turns(Part::Step(cut), self)),
-            other => self.after_step(other, cut),
-        }
-    }
-
-    fn stop(self, token: Token, mut cut: Cut) -> Result<Filled, AllocError>
-        ensures { IfOk result (λ x. x ≡ fill_stop token cut self) }
-    {
-        match token {
-            Token::Number(n) => {
-                cut.stop = Some(n);
-                Ok(Filled::Turns(Part::AfterStop(cut), self))
-            }
-            other => {
-                cut.stop = None;
-                self.after_stop(other, cut)
-            }
-        }
-    }
-
-    fn step(self, token: Token, mut cut: Cut) -> Result<Filled, AllocError>
-        ensures { IfOk result (λ x. x ≡ fill_step token cut self) }
-    {
-        match token {
-            Token::Number(n) => {
-                cut.step = Some(i128::from(n));
-                Ok(Filled::Turns(Part::AfterStep(cut), self))
-            }
-            Token::Sign(Sign::Minus) => Ok(Filled::Turns(Part::NegativeStep(cut), self)),
-            other => {
-                cut.step = None;
-                self.after_step(other, cut)
-            }
-        }
-    }
-
-    fn negative_step(self, token: Token, mut cut: Cut) -> Filled
-        ensures { result ≡ fill_negative_step token cut self }
-    {
-        match token {
-            Token::Number(n) => {
-                cut.step = Some(-i128::from(n));
-                Filled::Turns(Part::AfterStep(cut), self)
-            }
-            _ => Filled::Stuck,
-        }
-    }
-
-    /// What a token makes of the fields where this part of them is wanted.
-    pub fn fill(self, part: Part, token: Token, at: Place) -> Result<Filled, AllocError>
-        ensures { IfOk result (λ x. x ≡ fill part token at self) }
-    {
-        match part {
-            Part::Open => Ok(self.open(token)),
-            Part::Close => Ok(self.close(token)),
-            Part::Comma => Ok(self.comma(token)),
-            Part::Number => Ok(self.number(token, at)),
-            Part::TypeOrClose => Ok(self.type_or_close(token)),
-            Part::LastType => Ok(self.last_type(token)),
-            Part::Literal => Ok(self.literal(token, at)),
-            Part::Size => Ok(self.size(token)),
-            Part::Shape => Ok(self.shape(token, at)),
-            Part::Length => self.length(token),
-            Part::MoreLengths => Ok(self.more(token, Part::Length)),
-            Part::Strides => Ok(self.strides(token, at)),
-            Part::Stride => self.stride(token),
-            Part::NegativeStride => self.negative_stride(token),
-            Part::MoreStrides => Ok(self.more(token, Part::Stride)),
-            Part::Start => Ok(self.start(token)),
-            Part::Colon(cut) => Ok(self.colon(token, cut)),
-            Part::Stop(cut) => self.stop(token, cut),
-            Part::AfterStop(cut) => self.after_stop(token, cut),
-            Part::Step(cut) => self.step(token, cut),
-            Part::NegativeStep(cut) => Ok(self.negative_step(token, cut)),
-            Part::AfterStep(cut) => self.after_step(token, cut),
-        }
+/// The slice that may end at this field.
+fn whole(field: Field) -> Option<Cut>
+    ensures { result ≡ whole field }
+{
+    match field {
+        Field::Stop(cut) => Some(Cut { stop: None, ..cut }),
+        Field::Step(cut) => Some(Cut { step: None, ..cut }),
+        Field::AfterStop(cut) | Field::AfterStep(cut) => Some(cut),
+        _ => None,
     }
 }

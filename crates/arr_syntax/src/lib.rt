@@ -11,14 +11,14 @@
 //! - `Refused`: `Begins`, which faults fit a token (`Fits`), their order, and `IsRefused` and `IsScript`.
 //!
 //! **How it reads.** `Machine` and `Run` in specs/ say what one token makes of what is still wanted: a stack of frames
-//! with the innermost first, and no recursion. step.rt is that machine, fields.rt reads the fields of calls and of
-//! indices, reader.rt holds the limits, text.rt cuts the next token. No clause of `parse` names the machine: proofs/
-//! shows that it takes a token exactly where some script goes on with it (`Forward`, `Backward`, `Completable`), that
-//! the run refuses the first fault (`Reading`), and that nothing else can be answered (`Unique`).
+//! with the innermost first, and no recursion. Each form is a row of parts, with what they make up: node.rt has both.
+//! step.rt is the machine, fields.rt reads the parts that are no trees, reader.rt holds the limits, text.rt cuts the
+//! next token. No clause of `parse` names the machine: proofs/ shows that it takes a token exactly where some script
+//! goes on with it (`Forward`, `Backward`, `Completable`), that the run refuses the first fault (`Reading`), and that
+//! nothing else can be answered (`Unique`).
 #![tactic(auto)]
 
 mod fields;
-mod lists;
 mod node;
 mod parser;
 mod parts;
@@ -31,7 +31,6 @@ mod text;
 mod token;
 mod tree;
 
-pub use lists::{Name, Slices};
 pub use parser::parse;
 pub use refusal::{Kind, ParseFault, Place, Refusal};
 pub use text::place_behind;

@@ -1,84 +1,268 @@
-ghost use Rattle.std.specs.Prelude.{◌≡◌, MatchResult, IfOk};
-ghost use Rattle.arr_syntax.specs.Grammar.{literal_at, unary_at, binary_at, power_at, fold_at, cast_at, range_at, lengths_at, steps_at, full_at, index_at, broadcast_at, transpose_at, reshape_at, strided_at};
-ghost use Rattle.arr_syntax.specs.Machine.{parts_of, view_parts, level_of, built, view_at};
+ghost use Rattle.std.specs.Prelude.{◌≡◌, IfOk};
+ghost use Rattle.arr_syntax.specs.Grammar.{literal_at};
+ghost use Rattle.arr_syntax.specs.Machine.{array_row, rule_row, row_of, level_of, wanted_in, code_of, form_of, form_of_one, view_form, tree_of, head_form, stated};
 
 use crate::parts::Parts;
 use crate::refusal::Place;
-use crate::state::{Fields, Node, Part};
+use crate::state::{Field, Fields, Head, Mode, Node, Part, Rule, Trees};
 use crate::token::View;
-use crate::tree::{Code16, Expr, ExprForm, Lengths, Steps, Type4};
+use crate::tree::{Code16, Expr, ExprForm, Form, Statement};
 use sqlite_items::Boxed;
 use std::alloc::{AllocError, Global};
 
-/// The parts that come behind the array of a view call.
-fn view_parts(view: View) -> Parts
-    ensures { result ≡ view_parts view }
+const OPEN: Part = Part::Field(Field::Open);
+
+const CLOSE: Part = Part::Field(Field::Close);
+
+const COMMA: Part = Part::Field(Field::Comma);
+
+pub const EQUALS: Part = Part::Field(Field::Equals);
+
+const NUMBER: Part = Part::Field(Field::Number);
+
+const SHAPE: Part = Part::Field(Field::Shape);
+
+const STRIDES: Part = Part::Field(Field::Strides);
+
+pub const VALUE: Part = Part::Tree(Mode::Value);
+
+const PLACE: Part = Part::Tree(Mode::Place);
+
+/// The row of a view call, whose array is a value or a place.
+fn array_row(mode: Mode, view: View) -> Parts
+    ensures { result ≡ array_row mode view }
+{
+    match (mode, view) {
+        (Mode::Value, View::Transpose) => Parts::new(&[OPEN, VALUE, CLOSE]),
+        (Mode::Place, View::Transpose) => Parts::new(&[OPEN, PLACE, CLOSE]),
+        (Mode::Value, View::Broadcast | View::Reshape) => {
+            Parts::new(&[OPEN, VALUE, COMMA, SHAPE, CLOSE])
+        }
+        (Mode::Place, View::Broadcast | View::Reshape) => {
+            Parts::new(&[OPEN, PLACE, COMMA, SHAPE, CLOSE])
+        }
+        (Mode::Value, View::Strided) => Parts::new(&[
+            OPEN, VALUE, COMMA, NUMBER, COMMA, SHAPE, COMMA, STRIDES, CLOSE,
+        ]),
+        (Mode::Place, View::Strided) => Parts::new(&[
+            OPEN, PLACE, COMMA, NUMBER, COMMA, SHAPE, COMMA, STRIDES, CLOSE,
+        ]),
+    }
+}
+
+impl Rule {
+    /// How the expression is written, from its first tree or from behind its first token on.
+    fn row(self) -> Parts
+        ensures { result ≡ rule_row self }
+    {
+        match self {
+            Rule::Bracket => Parts::new(&[VALUE, CLOSE]),
+            Rule::Negative | Rule::Power => Parts::new(&[NUMBER]),
+            Rule::Invert | Rule::Operand { .. } => Parts::new(&[VALUE]),
+            Rule::Index => Parts::new(&[Part::Field(Field::Start)]),
+            Rule::Range => Parts::new(&[OPEN, NUMBER, Part::Field(Field::TypeOrClose)]),
+            Rule::Full => Parts::new(&[
+                OPEN,
+                SHAPE,
+                COMMA,
+                Part::Field(Field::Literal),
+                COMMA,
+                Part::Field(Field::LastType),
+            ]),
+            Rule::Fold(_) => Parts::new(&[OPEN, VALUE, COMMA, NUMBER, CLOSE]),
+            Rule::Absolute | Rule::Cast(_) => Parts::new(&[OPEN, VALUE, CLOSE]),
+            Rule::Pair(_) => Parts::new(&[OPEN, VALUE, COMMA, VALUE, CLOSE]),
+            Rule::View(mode, view) => array_row(mode, view),
+        }
+    }
+
+    /// The level of the expression. A comparison doesn't chain.
+    pub fn level(self) -> u8
+        ensures { result ≡ level_of self }
+    {
+        match self {
+            Rule::Invert | Rule::Power => 2,
+            Rule::Operand { level, .. } => { if level == 8 { 9 } else { level } }
+            _ => 0,
+        }
+    }
+
+    /// The code of a sign or a word that has one.
+    fn code(self) -> Code16
+        ensures { result ≡ code_of self }
+    {
+        match self {
+            Rule::Operand { code, .. } | Rule::Fold(code) | Rule::Pair(code) => code,
+            Rule::Invert => Code16::Invert,
+            _ => Code16::Absolute,
+        }
+    }
+
+    /// The expression over one tree: that of a rule named here, or else of a sign or a word with a code.
+    fn form_of_one(self, of: Boxed<Expr>, fields: Fields) -> ExprForm
+        ensures { result ≡ form_of_one self of fields }
+    {
+        match self {
+            Rule::Index => ExprForm::Index {
+                of,
+                slices: fields.cuts,
+            },
+            Rule::Power => ExprForm::Power {
+                of,
+                exponent: fields.number,
+            },
+            Rule::Full => ExprForm::Full {
+                shape: fields.shape,
+                literal: of,
+                to: fields.to,
+            },
+            Rule::Fold(code) => ExprForm::Fold {
+                code,
+                of,
+                axis: fields.number,
+                axis_at: fields.number_at,
+            },
+            Rule::Cast(to) => ExprForm::Cast { to, of },
+            Rule::View(_, view) => view_form(view, of, fields),
+            _ => ExprForm::Unary {
+                code: self.code(),
+                of,
+            },
+        }
+    }
+
+    /// The expression by its number of trees. With none it is a range, or else a literal.
+    fn form(self, trees: Trees, fields: Fields) -> ExprForm
+        ensures { result ≡ form_of self trees fields }
+    {
+        match (trees, self) {
+            (Trees::None, Rule::Range) => ExprForm::Range {
+                count: fields.number,
+                count_at: fields.number_at,
+                to: fields.to,
+            },
+            (Trees::None, _) => ExprForm::Literal {
+                negative: true,
+                size: fields.number,
+            },
+            (Trees::One(of), _) => self.form_of_one(of, fields),
+            (Trees::Two(left, right), _) => ExprForm::Binary {
+                code: self.code(),
+                left,
+                right,
+            },
+            (Trees::Three(of, _second, _third), _) => self.form_of_one(of, fields),
+        }
+    }
+
+    /// The expression whose row is read.
+    pub fn build(
+        self,
+        alloc: Global,
+        at: Place,
+        mut fields: Fields,
+    ) -> Result<Boxed<Expr>, AllocError>
+        ensures { IfOk result (λ t. t ≡ tree_of self at fields) }
+    {
+        match (self, std::mem::replace(&mut fields.trees, Trees::None)) {
+            (Rule::Bracket, Trees::One(of)) => Ok(of),
+            (_, trees) => tree(alloc, at, self.form(trees, fields)),
+        }
+    }
+}
+
+fn view_form(view: View, of: Boxed<Expr>, fields: Fields) -> ExprForm
+    ensures { result ≡ view_form view of fields }
 {
     match view {
-        View::Broadcast | View::Reshape => { Parts::new(&[Part::Comma, Part::Shape, Part::Close]) }
-        View::Transpose => Parts::new(&[Part::Close]),
-        View::Strided => Parts::new(&[
-            Part::Comma,
-            Part::Number,
-            Part::Comma,
-            Part::Shape,
-            Part::Comma,
-            Part::Strides,
-            Part::Close,
-        ]),
+        View::Broadcast => ExprForm::Broadcast {
+            of,
+            shape: fields.shape,
+        },
+        View::Transpose => ExprForm::Transpose { of },
+        View::Reshape => ExprForm::Reshape {
+            of,
+            shape: fields.shape,
+        },
+        View::Strided => ExprForm::Strided {
+            of,
+            start: fields.number,
+            shape: fields.shape,
+            strides: fields.strides,
+        },
+    }
+}
+
+impl Head {
+    /// The statement over its trees. Without them it is `flush`.
+    fn form(self, at: Place, equals: Place, trees: Trees) -> Form
+        ensures { result ≡ head_form self at equals trees }
+    {
+        match (self, trees) {
+            (Head::Print, Trees::One(value)) => Form::Print(value.into_inner()),
+            (Head::Bind(name), Trees::One(value)) => Form::Bind {
+                name,
+                value: value.into_inner(),
+            },
+            (Head::Assign, Trees::Two(target, value)) => Form::Assign {
+                target: target.into_inner(),
+                equals,
+                value: value.into_inner(),
+            },
+            (Head::Gather(name), Trees::Two(source, index)) => Form::Gather {
+                name,
+                at,
+                source: source.into_inner(),
+                index: index.into_inner(),
+            },
+            (Head::Scatter, Trees::Three(target, index, values)) => Form::Scatter {
+                at,
+                target: target.into_inner(),
+                index: index.into_inner(),
+                values: values.into_inner(),
+            },
+            _ => Form::Flush,
+        }
+    }
+
+    /// The statement whose row is read.
+    pub fn build(
+        self,
+        alloc: Global,
+        at: Place,
+        fields: Fields,
+    ) -> Result<Boxed<Statement>, AllocError>
+        ensures { IfOk result (λ s. s ≡ stated self at fields) }
+    {
+        statement(alloc, self.form(at, fields.equals, fields.trees))
     }
 }
 
 impl Node {
     /// The parts that are to be read, in order.
-    pub fn parts(&self) -> Parts
-        ensures { result ≡ parts_of self.now }
+    pub fn row(&self) -> Parts
+        ensures { result ≡ row_of self.now }
     {
         match self {
-            Node::Negative | Node::Power { .. } => Parts::new(&[Part::Number]),
-            Node::Index { .. } => Parts::new(&[Part::Start]),
-            Node::Range => Parts::new(&[Part::Open, Part::Number, Part::TypeOrClose]),
-            Node::Full => Parts::new(&[
-                Part::Open,
-                Part::Shape,
-                Part::Comma,
-                Part::Literal,
-                Part::Comma,
-                Part::LastType,
-            ]),
-            Node::Fold { .. } => Parts::new(&[Part::Comma, Part::Number, Part::Close]),
-            Node::Absolute { .. } | Node::Cast { .. } | Node::Pair { .. } => {
-                Parts::new(&[Part::Close])
+            Node::Tree(rule) => rule.row(),
+            Node::Statement(Head::Print | Head::Bind(_)) => Parts::new(&[VALUE]),
+            Node::Statement(Head::Assign) => Parts::new(&[PLACE, EQUALS, VALUE]),
+            Node::Statement(Head::Gather(_)) => Parts::new(&[OPEN, VALUE, COMMA, VALUE, CLOSE]),
+            Node::Statement(Head::Scatter) => {
+                Parts::new(&[OPEN, PLACE, COMMA, VALUE, COMMA, VALUE, CLOSE])
             }
-            Node::View { view, .. } => view_parts(*view),
         }
     }
 
-    /// The level of the tree.
-    pub fn level(&self) -> u8
-        ensures { result ≡ level_of self.now }
+    /// The level of a tree in the row.
+    pub fn wanted(&self, mode: Mode) -> u8
+        ensures { result ≡ wanted_in self.now mode }
     {
-        match self {
-            Node::Power { .. } => 2,
-            _ => 0,
-        }
-    }
-
-    /// The tree of the node, whose fields are read.
-    pub fn build(self, alloc: Global, at: Place, fields: Fields) -> Result<Boxed<Expr>, AllocError>
-        ensures { IfOk result (λ t. t ≡ built self at fields) }
-    {
-        match self {
-            Node::Negative => literal(alloc, at, true, fields.number),
-            Node::Power { of } => power(alloc, at, of, fields.number),
-            Node::Index { of } => index(alloc, at, of, fields),
-            Node::Range => range(alloc, at, fields),
-            Node::Full => full(alloc, at, fields),
-            Node::Fold { code, of } => fold(alloc, at, code, of, fields),
-            Node::Absolute { of } => unary(alloc, at, Code16::Absolute, of),
-            Node::Cast { to, of } => cast(alloc, at, to, of),
-            Node::Pair { code, left, right } => binary(alloc, at, code, left, right),
-            Node::View { view, of } => view_tree(alloc, at, view, of, fields),
+        match (self, mode) {
+            (_, Mode::Place) => 1,
+            (Node::Tree(Rule::Invert), Mode::Value) => 2,
+            (Node::Tree(Rule::Operand { level, .. }), Mode::Value) => *level,
+            _ => 9,
         }
     }
 }
@@ -102,145 +286,9 @@ pub fn literal(
     tree(alloc, at, ExprForm::Literal { negative, size })
 }
 
-fn power(
-    alloc: Global,
-    at: Place,
-    of: Boxed<Expr>,
-    exponent: u64,
-) -> Result<Boxed<Expr>, AllocError>
-    ensures { IfOk result (λ t. t ≡ power_at at of exponent) }
+/// A statement in a box of its own.
+pub fn statement(alloc: Global, form: Form) -> Result<Boxed<Statement>, AllocError>
+    ensures { IfOk result (λ s. s ≡ record { form = form }) }
 {
-    tree(alloc, at, ExprForm::Power { of, exponent })
-}
-
-fn index(
-    alloc: Global,
-    at: Place,
-    of: Boxed<Expr>,
-    fields: Fields,
-) -> Result<Boxed<Expr>, AllocError>
-    ensures { IfOk result (λ t. t ≡ index_at at of fields.cuts) }
-{
-    tree(
-        alloc,
-        at,
-        ExprForm::Index {
-            of,
-            slices: fields.cuts,
-        },
-    )
-}
-
-fn range(alloc: Global, at: Place, fields: Fields) -> Result<Boxed<Expr>, AllocError>
-    ensures { IfOk result (λ t. t ≡ range_at at fields.number fields.number_at fields.to) }
-{
-    tree(
-        alloc,
-        at,
-        ExprForm::Range {
-            count: fields.number,
-            count_at: fields.number_at,
-            to: fields.to,
-        },
-    )
-}
-
-fn full(alloc: Global, at: Place, fields: Fields) -> Result<Boxed<Expr>, AllocError>
-    ensures { IfOk result (λ t. t ≡ full_at at (lengths_at fields.shape_at fields.shape) (literal_at fields.size_at fields.negative fields.size) fields.to) }
-{
-    let literal = literal(alloc, fields.size_at, fields.negative, fields.size)?;
-    tree(
-        alloc,
-        at,
-        ExprForm::Full {
-            shape: Lengths {
-                at: fields.shape_at,
-                list: fields.shape,
-            },
-            literal,
-            to: fields.to,
-        },
-    )
-}
-
-fn fold(
-    alloc: Global,
-    at: Place,
-    code: Code16,
-    of: Boxed<Expr>,
-    fields: Fields,
-) -> Result<Boxed<Expr>, AllocError>
-    ensures { IfOk result (λ t. t ≡ fold_at at code of fields.number fields.number_at) }
-{
-    tree(
-        alloc,
-        at,
-        ExprForm::Fold {
-            code,
-            of,
-            axis: fields.number,
-            axis_at: fields.number_at,
-        },
-    )
-}
-
-/// A tree under a sign or a word.
-pub fn unary(
-    alloc: Global,
-    at: Place,
-    code: Code16,
-    of: Boxed<Expr>,
-) -> Result<Boxed<Expr>, AllocError>
-    ensures { IfOk result (λ t. t ≡ unary_at at code of) }
-{
-    tree(alloc, at, ExprForm::Unary { code, of })
-}
-
-fn cast(alloc: Global, at: Place, to: Type4, of: Boxed<Expr>) -> Result<Boxed<Expr>, AllocError>
-    ensures { IfOk result (λ t. t ≡ cast_at at to of) }
-{
-    tree(alloc, at, ExprForm::Cast { to, of })
-}
-
-/// Two trees under a sign or a word.
-pub fn binary(
-    alloc: Global,
-    at: Place,
-    code: Code16,
-    left: Boxed<Expr>,
-    right: Boxed<Expr>,
-) -> Result<Boxed<Expr>, AllocError>
-    ensures { IfOk result (λ t. t ≡ binary_at at code left right) }
-{
-    tree(alloc, at, ExprForm::Binary { code, left, right })
-}
-
-fn view_tree(
-    alloc: Global,
-    at: Place,
-    view: View,
-    of: Boxed<Expr>,
-    fields: Fields,
-) -> Result<Boxed<Expr>, AllocError>
-    ensures { IfOk result (λ t. t ≡ view_at view at of fields) }
-{
-    let shape = Lengths {
-        at: fields.shape_at,
-        list: fields.shape,
-    };
-    let form = match view {
-        View::Broadcast => ExprForm::Broadcast { of, shape },
-        View::Transpose => ExprForm::Transpose { of },
-        View::Reshape => ExprForm::Reshape { of, shape },
-        View::Strided => ExprForm::Strided {
-            of,
-            start: fields.number,
-            shape,
-            strides: Steps {
-                at: fields.strides_at,
-                list: fields.strides,
-            },
-        },
-    };
-    tree(alloc, at, form)
+    Boxed::new(alloc, Statement { form })
 }

@@ -25,13 +25,16 @@ impl Parts {
         Parts { rest }
     }
 
-    /// The next part, and the parts behind it.
-    pub fn split(self) -> Option<(Part, Parts)>
-        ensures { MatchOption result (self ≡ []) (λ x. self ≡ x.0 ∷ x.1) }
+    /// Takes the next part.
+    pub fn next(&mut self) -> Option<Part>
+        ensures { MatchOption result ((self.old ≡ []) × (self.new ≡ [])) (λ p. self.old ≡ p ∷ self.new) }
     {
         match self.rest {
             [] => None,
-            [first, rest @ ..] => Some((*first, Parts { rest })),
+            [first, rest @ ..] => {
+                self.rest = rest;
+                Some(*first)
+            }
         }
     }
 }

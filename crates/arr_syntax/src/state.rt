@@ -1,9 +1,8 @@
-use crate::lists::Slices;
 use crate::parts::Parts;
 use crate::refusal::Place;
 use crate::stack::Stack;
 use crate::token::View;
-use crate::tree::{Code16, Cut, Expr, Statement, Type4, Word};
+use crate::tree::{Code16, Cut, Expr, Lengths, Statement, Steps, Type4, Word};
 use sqlite_items::{Boxed, Items};
 
 /// Where a tree is wanted: as a value, or as a place whose elements are named.
@@ -13,83 +12,82 @@ pub enum Mode {
     Place,
 }
 
-/// What an argument is read for.
-#[derive(Drop)]
-pub enum Callee {
+/// A form of an expression. A row of parts says how it is written, and the trees and fields that were read make it up.
+#[derive(Clone, Copy)]
+pub enum Rule {
+    Bracket,
+    /// The number behind a `-`.
+    Negative,
+    Invert,
+    Index,
+    Power,
+    /// The right side of a sign of this level.
+    Operand { level: u8, code: Code16 },
+    Range,
+    Full,
     Fold(Code16),
     Absolute,
     Cast(Type4),
-    /// The first argument of `minimum` or `maximum`.
-    First(Code16),
-    /// The second one, behind the first.
-    Second { code: Code16, left: Boxed<Expr> },
-    View(View),
+    /// `minimum` and `maximum`
+    Pair(Code16),
+    View(Mode, View),
 }
 
-/// A tree whose fields are being read.
+/// A form of a statement, as far as it has a value.
+#[derive(Drop)]
+pub enum Head {
+    Print,
+    Bind(Word),
+    Assign,
+    Gather(Word),
+    Scatter,
+}
+
+/// What a row of parts makes up.
 #[derive(Drop)]
 pub enum Node {
-    Negative,
-    Power {
-        of: Boxed<Expr>,
-    },
-    Index {
-        of: Boxed<Expr>,
-    },
-    Range,
-    Full,
-    Fold {
-        code: Code16,
-        of: Boxed<Expr>,
-    },
-    Absolute {
-        of: Boxed<Expr>,
-    },
-    Cast {
-        to: Type4,
-        of: Boxed<Expr>,
-    },
-    Pair {
-        code: Code16,
-        left: Boxed<Expr>,
-        right: Boxed<Expr>,
-    },
-    View {
-        view: View,
-        of: Boxed<Expr>,
-    },
+    Tree(Rule),
+    Statement(Head),
 }
 
-/// The fields that were read so far.
+/// The trees of a row that were read so far.
+#[derive(Drop)]
+pub enum Trees {
+    None,
+    One(Boxed<Expr>),
+    Two(Boxed<Expr>, Boxed<Expr>),
+    Three(Boxed<Expr>, Boxed<Expr>, Boxed<Expr>),
+}
+
+/// What was read of a row so far.
 #[derive(Drop)]
 pub struct Fields {
+    pub trees: Trees,
     pub number: u64,
     pub number_at: Place,
-    pub negative: bool,
-    pub size: u64,
-    pub size_at: Place,
     pub to: Type4,
-    pub shape_at: Place,
-    pub shape: Items<u64>,
-    pub strides_at: Place,
-    pub strides: Items<i128>,
-    pub cuts: Slices,
+    /// The place of the `=`.
+    pub equals: Place,
+    pub shape: Lengths,
+    pub strides: Steps,
+    pub cuts: Items<Cut>,
 }
 
-/// What comes next of the fields of a node.
+/// A part of a row that is no tree, or what is still to come of it.
 #[derive(Clone, Copy)]
-pub enum Part {
+pub enum Field {
     Open,
     Close,
     Comma,
+    Equals,
     Number,
     /// `)`, or `,` and a type and `)`
     TypeOrClose,
     /// a type and `)`
     LastType,
     Literal,
-    /// the number behind the `-` of a literal
-    Size,
+    /// the number behind the `-` at this place
+    Size(Place),
     Shape,
     Length,
     MoreLengths,
@@ -107,68 +105,28 @@ pub enum Part {
     AfterStep(Cut),
 }
 
-/// What a statement's value is read for.
-#[derive(Drop)]
-pub enum Head {
-    Print,
-    Bind { name: Word },
-    Assign { target: Boxed<Expr>, equals: Place },
+/// A part of a row.
+#[derive(Clone, Copy)]
+pub enum Part {
+    Tree(Mode),
+    Field(Field),
 }
 
-/// What an argument of `gather` or `scatter` is, with those before it.
+/// A row that is being read.
 #[derive(Drop)]
-pub enum Role {
-    /// The first argument of `name = gather(source, index)`.
-    Source {
-        name: Word,
-    },
-    /// The second one.
-    Index {
-        name: Word,
-        source: Boxed<Expr>,
-    },
-    /// The first argument of `scatter(target, index, values)`.
-    Target,
-    /// The second one.
-    Places {
-        target: Boxed<Expr>,
-    },
-    /// The third one.
-    Values {
-        target: Boxed<Expr>,
-        index: Boxed<Expr>,
-    },
+pub struct Row {
+    pub node: Node,
+    pub at: Place,
+    /// The parts that are still to come.
+    pub rest: Parts,
+    pub fields: Fields,
 }
 
-/// What is open around the tree that is being read.
+/// A row behind whose next tree the others stand, and the level of that tree.
 #[derive(Drop)]
-pub enum Frame {
-    /// The value of a statement.
-    Value(Head),
-    /// The target of a statement.
-    Target,
-    /// An argument of the word at this place.
-    Role {
-        role: Role,
-        at: Place,
-    },
-    Bracket,
-    Argument {
-        mode: Mode,
-        callee: Callee,
-        at: Place,
-    },
-    /// The `~` before it.
-    Invert {
-        at: Place,
-    },
-    /// The right side of a sign of this level.
-    Operand {
-        level: u8,
-        code: Code16,
-        at: Place,
-        left: Boxed<Expr>,
-    },
+pub struct Frame {
+    pub row: Row,
+    pub level: u8,
 }
 
 /// Where the reading of a script stands.
@@ -177,47 +135,23 @@ pub enum State {
     /// At the beginning of a line.
     Start,
     /// Behind a name at the beginning of a statement.
-    Named {
-        name: Word,
-    },
+    Named(Word),
     /// Behind the `=` after that name.
-    Bound {
-        name: Word,
-    },
-    /// Behind `gather` or `scatter`, at this place.
-    Opens {
-        role: Role,
-        at: Place,
-    },
+    Bound(Word),
     /// Behind `del`.
     Delete,
     /// Behind a whole statement.
     Ended,
-    /// A tree is wanted.
-    Want {
-        mode: Mode,
-        stack: Stack,
-    },
-    /// Behind the word of a call.
-    Call {
-        mode: Mode,
-        callee: Callee,
-        at: Place,
-        stack: Stack,
-    },
     /// A tree of this level stands here.
     Have {
         level: u8,
         tree: Boxed<Expr>,
         stack: Stack,
     },
-    /// Fields of a node are wanted: a part, and then the others.
+    /// A part of a row is wanted, and then the others.
     Fill {
-        node: Node,
-        at: Place,
         part: Part,
-        rest: Parts,
-        fields: Fields,
+        row: Row,
         stack: Stack,
     },
     /// Behind the end.
@@ -234,12 +168,12 @@ pub enum Move {
     Emit(Boxed<Statement>, State),
 }
 
-/// What a token makes of a part.
+/// What a token makes of a field.
 #[derive(Drop)]
 pub enum Filled {
     Stuck,
-    /// The part is over.
+    /// The field is over.
     Over(Fields),
-    /// This part is wanted in its place.
-    Turns(Part, Fields),
+    /// This is still to come of it.
+    Turns(Field, Fields),
 }

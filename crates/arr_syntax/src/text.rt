@@ -1,11 +1,11 @@
 ghost use Rattle.std.specs.Prelude.{◌≡◌, ◌∷◌, ℕ, ◌+◌, ◌-◌, ◌^◌, ◌<◌, ◌≤◌, length, Some, None, List, Option, IfOk, false};
 ghost use Rattle.arr_syntax.specs.Run.{is_end, behind};
-ghost use Rattle.arr_syntax.specs.Tokens.{digits, decimal, number_of, is_blank, is_letter, is_word_byte, word, find_word, statement_words, call_words, fold_words, type_words, reserved, word_of, sign_of_one, sign_with_equal, sign_doubled, sign_of_two, sign_piece, piece, comment, beyond, place_behind, items_from};
+ghost use Rattle.arr_syntax.specs.Tokens.{digits, decimal, number_of, is_blank, is_letter, is_word_byte, word, named, reserved, word_of, sign_of_one, sign_of_two, sign_piece, piece, comment, beyond, place_behind, items_from};
 
-use crate::lists::Name;
 use crate::refusal::Place;
 use crate::token::{Item, Keyword, Sign, Token, View};
 use crate::tree::{Code16, Type4};
+use sqlite_items::Items;
 use std::alloc::{AllocError, Global};
 
 fn is_blank(byte: u8) -> bool
@@ -66,93 +66,40 @@ fn number(digits: &[u8]) -> Token
     Token::Number(value)
 }
 
-fn statement_word(word: &[u8]) -> Option<Keyword>
-    ensures { result ≡ find_word word.now statement_words }
+/// The keyword, where the word is this text.
+fn named(word: &[u8], text: &[u8], keyword: Keyword) -> Option<Keyword>
+    ensures { result ≡ named word.now text.now keyword }
 {
-    if word == b"print".as_slice() {
-        Some(Keyword::Print)
-    } else if word == b"del".as_slice() {
-        Some(Keyword::Del)
-    } else if word == b"flush".as_slice() {
-        Some(Keyword::Flush)
-    } else if word == b"gather".as_slice() {
-        Some(Keyword::Gather)
-    } else if word == b"scatter".as_slice() {
-        Some(Keyword::Scatter)
-    } else {
-        None
-    }
-}
-
-fn call_word(word: &[u8]) -> Option<Keyword>
-    ensures { result ≡ find_word word.now call_words }
-{
-    if word == b"range".as_slice() {
-        Some(Keyword::Range)
-    } else if word == b"full".as_slice() {
-        Some(Keyword::Full)
-    } else if word == b"abs".as_slice() {
-        Some(Keyword::Absolute)
-    } else if word == b"minimum".as_slice() {
-        Some(Keyword::Pair(Code16::Minimum))
-    } else if word == b"maximum".as_slice() {
-        Some(Keyword::Pair(Code16::Maximum))
-    } else if word == b"broadcast".as_slice() {
-        Some(Keyword::View(View::Broadcast))
-    } else if word == b"transpose".as_slice() {
-        Some(Keyword::View(View::Transpose))
-    } else if word == b"reshape".as_slice() {
-        Some(Keyword::View(View::Reshape))
-    } else if word == b"strided".as_slice() {
-        Some(Keyword::View(View::Strided))
-    } else {
-        None
-    }
-}
-
-fn fold_word(word: &[u8]) -> Option<Keyword>
-    ensures { result ≡ find_word word.now fold_words }
-{
-    if word == b"sum".as_slice() {
-        Some(Keyword::Fold(Code16::AddReduce))
-    } else if word == b"prod".as_slice() {
-        Some(Keyword::Fold(Code16::MultiplyReduce))
-    } else if word == b"min".as_slice() {
-        Some(Keyword::Fold(Code16::MinimumReduce))
-    } else if word == b"max".as_slice() {
-        Some(Keyword::Fold(Code16::MaximumReduce))
-    } else if word == b"cumsum".as_slice() {
-        Some(Keyword::Fold(Code16::AddAccumulate))
-    } else if word == b"cumprod".as_slice() {
-        Some(Keyword::Fold(Code16::MultiplyAccumulate))
-    } else {
-        None
-    }
-}
-
-fn type_word(word: &[u8]) -> Option<Keyword>
-    ensures { result ≡ find_word word.now type_words }
-{
-    if word == b"u8".as_slice() {
-        Some(Keyword::Type(Type4::U8))
-    } else if word == b"i32".as_slice() {
-        Some(Keyword::Type(Type4::I32))
-    } else if word == b"i64".as_slice() {
-        Some(Keyword::Type(Type4::I64))
-    } else if word == b"u64".as_slice() {
-        Some(Keyword::Type(Type4::U64))
-    } else {
-        None
-    }
+    if word == text { Some(keyword) } else { None }
 }
 
 fn reserved(word: &[u8]) -> Option<Keyword>
     ensures { result ≡ reserved word.now }
 {
-    statement_word(word)
-        .or(call_word(word))
-        .or(fold_word(word))
-        .or(type_word(word))
+    named(word, b"print", Keyword::Print)
+        .or(named(word, b"del", Keyword::Del))
+        .or(named(word, b"flush", Keyword::Flush))
+        .or(named(word, b"gather", Keyword::Gather))
+        .or(named(word, b"scatter", Keyword::Scatter))
+        .or(named(word, b"range", Keyword::Range))
+        .or(named(word, b"full", Keyword::Full))
+        .or(named(word, b"abs", Keyword::Absolute))
+        .or(named(word, b"minimum", Keyword::Pair(Code16::Minimum)))
+        .or(named(word, b"maximum", Keyword::Pair(Code16::Maximum)))
+        .or(named(word, b"broadcast", Keyword::View(View::Broadcast)))
+        .or(named(word, b"transpose", Keyword::View(View::Transpose)))
+        .or(named(word, b"reshape", Keyword::View(View::Reshape)))
+        .or(named(word, b"strided", Keyword::View(View::Strided)))
+        .or(named(word, b"sum", Keyword::Fold(Code16::AddReduce)))
+        .or(named(word, b"prod", Keyword::Fold(Code16::MultiplyReduce)))
+        .or(named(word, b"min", Keyword::Fold(Code16::MinimumReduce)))
+        .or(named(word, b"max", Keyword::Fold(Code16::MaximumReduce)))
+        .or(named(word, b"cumsum", Keyword::Fold(Code16::AddAccumulate)))
+        .or(named(word, b"cumprod", Keyword::Fold(Code16::MultiplyAccumulate)))
+        .or(named(word, b"u8", Keyword::Type(Type4::U8)))
+        .or(named(word, b"i32", Keyword::Type(Type4::I32)))
+        .or(named(word, b"i64", Keyword::Type(Type4::I64)))
+        .or(named(word, b"u64", Keyword::Type(Type4::U64)))
 }
 
 /// The longest word that is a name.
@@ -168,7 +115,7 @@ fn word_of(alloc: Global, word: &[u8]) -> Result<Token, AllocError>
     if word.len() > LONGEST_NAME {
         return Ok(Token::Long);
     }
-    Ok(Token::Name(Name::new(Vec::from_slice(alloc, word)?)))
+    Ok(Token::Name(Items::from_slice(alloc, word)?))
 }
 
 fn sign_of_one(byte: u8) -> Option<Sign>
@@ -197,29 +144,6 @@ fn sign_of_one(byte: u8) -> Option<Sign>
     }
 }
 
-fn sign_with_equal(byte: u8) -> Option<Sign>
-    ensures { result ≡ sign_with_equal byte }
-{
-    match byte {
-        b'=' => Some(Sign::Equal),
-        b'!' => Some(Sign::NotEqual),
-        b'<' => Some(Sign::LessEqual),
-        b'>' => Some(Sign::GreaterEqual),
-        _ => None,
-    }
-}
-
-fn sign_doubled(byte: u8) -> Option<Sign>
-    ensures { result ≡ sign_doubled byte }
-{
-    match byte {
-        b'<' => Some(Sign::LeftShift),
-        b'>' => Some(Sign::RightShift),
-        b'*' => Some(Sign::Power),
-        _ => None,
-    }
-}
-
 /// The sign of two bytes, of which this is the first one.
 fn sign_of_two(first: u8, behind: &[u8]) -> Option<Sign>
     ensures { result ≡ sign_of_two first behind.now }
@@ -227,13 +151,15 @@ fn sign_of_two(first: u8, behind: &[u8]) -> Option<Sign>
     if behind.is_empty() {
         return None;
     }
-    let second = behind[0];
-    if second == b'=' {
-        sign_with_equal(first)
-    } else if second == first {
-        sign_doubled(first)
-    } else {
-        None
+    match (first, behind[0]) {
+        (b'=', b'=') => Some(Sign::Equal),
+        (b'!', b'=') => Some(Sign::NotEqual),
+        (b'<', b'=') => Some(Sign::LessEqual),
+        (b'>', b'=') => Some(Sign::GreaterEqual),
+        (b'<', b'<') => Some(Sign::LeftShift),
+        (b'>', b'>') => Some(Sign::RightShift),
+        (b'*', b'*') => Some(Sign::Power),
+        _ => None,
     }
 }
 

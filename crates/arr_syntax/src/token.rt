@@ -1,6 +1,6 @@
-use crate::lists::Name;
 use crate::refusal::Place;
 use crate::tree::{Code16, Type4};
+use sqlite_items::Items;
 
 /// The signs, each a token of one or two bytes.
 #[derive(Clone, Copy)]
@@ -65,7 +65,7 @@ pub enum Token {
     Number(u64),
     /// A number above 18446744073709551615.
     Wide,
-    Name(Name),
+    Name(Items<u8>),
     /// A word of more than 64 bytes.
     Long,
     Keyword(Keyword),

@@ -1,4 +1,3 @@
-use crate::lists::{Name, Slices};
 use crate::refusal::Place;
 use sqlite_items::{Boxed, Items};
 
@@ -53,7 +52,7 @@ pub enum Form {
 /// A name, and the place of its first byte.
 #[derive(Debug, Drop)]
 pub struct Word {
-    pub text: Name,
+    pub text: Items<u8>,
     pub at: Place,
 }
 
@@ -121,7 +120,7 @@ pub enum ExprForm {
     /// `of[slices]`
     Index {
         of: Boxed<Expr>,
-        slices: Slices,
+        slices: Items<Cut>,
     },
     Broadcast {
         of: Boxed<Expr>,

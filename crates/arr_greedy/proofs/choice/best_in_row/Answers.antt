@@ -7,7 +7,7 @@ pub loop-place-preserved : goal.loop-place-preserved
 loop-place-preserved c =
     record {
       best = row_more (amount c.args.saved.now c.args.width) (may_merge (flag c.args.fuses.now c.args.width) (flag c.args.reaches.now c.args.width) c.args.keys.now) c.args.keys.now
-          c.loop-place.found c.taken-found.result c.args.left c.loop-place.place c.loop-place-test.true c.taken-found.ensures.best
+          c.loop-place.found c.better_pair-found.result c.args.left c.loop-place.place c.loop-place-test.true c.better_pair-found.ensures.best
           ∙ c.loop-place.invariant.best;
-      below = c.taken-found.ensures.below;
+      below = c.better_pair-found.ensures.below;
     }

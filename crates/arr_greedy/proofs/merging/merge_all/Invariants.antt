@@ -1,23 +1,23 @@
 use Rattle.std.proofs.Common.{◌≡◌, ◌<◌, ◌*◌, ◌-◌, length, map}
 use Rattle.std.specs.List.{All}
-use Rattle.arr_cost.specs.Footprints.{IsFootprint}
 use Rattle.arr_ops.specs.Order.{least_of}
 use Rattle.arr_heur.specs.Planners.{greedy_within}
-use Rattle.arr_greedy.specs.Blocks.{live, Keyed}
+use Rattle.arr_greedy.specs.Blocks.{Keyed}
+use Rattle.arr_greedy.specs.Standing.{ArePrinted, blocks_of, rows_of}
 use Rattle.arr_greedy.specs.Fast.{amount, flag}
 use Rattle.arr_greedy.proofs.Fast.{Kept}
 use Rattle.arr_greedy.proofs.merging.merge_all.Given as goal
 
 abbrev pub invariant-loop-turn : goal.invariant-loop-turn
 invariant-loop-turn l = record {
-  keyed : Keyed (map (λ b. b.numbers.items) l.blocks.items);
-  printed : All (λ b. IsFootprint l.costs b.numbers.items b.print) l.blocks.items;
+  keyed : Keyed (rows_of l.blocks.items);
+  printed : ArePrinted l.costs l.blocks.items;
   blocks_in : length l.blocks.items ≡ l.width;
   keys_in : All (λ k. k < l.width) l.keys.items;
   fuses_size : length l.fuses ≡ l.width * l.width;
   reaches_size : length l.reaches ≡ l.width * l.width;
   saved_size : length l.saved ≡ l.width * l.width;
-  keys : l.keys.items ≡ map least_of (live (map (λ b. b.numbers.items) l.blocks.items));
-  kept : Kept l.costs (live (map (λ b. b.numbers.items) l.blocks.items)) (flag l.fuses l.width) (flag l.reaches l.width) (amount l.saved l.width);
-  same : greedy_within (l.count - l.turn) l.costs (live (map (λ b. b.numbers.items) l.blocks.items)) ≡ greedy_within l.count l.costs (live (map (λ b. b.numbers.items) l.fn.blocks.items));
+  keys : l.keys.items ≡ map least_of (blocks_of l.blocks.items);
+  kept : Kept l.costs (blocks_of l.blocks.items) (flag l.fuses l.width) (flag l.reaches l.width) (amount l.saved l.width);
+  same : greedy_within (l.count - l.turn) l.costs (blocks_of l.blocks.items) ≡ greedy_within l.count l.costs (blocks_of l.fn.blocks.items);
 }

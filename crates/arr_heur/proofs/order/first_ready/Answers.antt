@@ -8,7 +8,7 @@ numbers_in b = b.items
 pub loop-place-preserved : goal.loop-place-preserved
 loop-place-preserved c =
     record {
-      first = found_more c.args.graph.now (map numbers_in c.args.blocks.now) c.args.left.now c.loop-place.found c.taken-found.result c.loop-place.place-index c.loop-place-test.true c.taken-found.ensures.taken
+      first = found_more c.args.graph.now (map numbers_in c.args.blocks.now) c.args.left.now c.loop-place.found c.earlier_ready-found.result c.loop-place.place-index c.loop-place-test.true c.earlier_ready-found.ensures.earlier
           ∙ c.loop-place.invariant.first;
-      below = c.taken-found.ensures.below;
+      below = c.earlier_ready-found.ensures.below;
     }

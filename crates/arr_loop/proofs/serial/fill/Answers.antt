@@ -20,6 +20,9 @@ use Rattle.arr_store.specs.Stored.{cells, memory_of}
 use Rattle.arr_loop.proofs.Elements.{width_met}
 use Rattle.arr_loop.proofs.serial.fill.Goals as goal
 
+pub compute-requires-clause-enough : goal.compute-requires-clause-enough
+compute-requires-clause-enough c = c.requires.enough (sym c.slides.ensures ∙ c.if-slides.false)
+
 pub write_out-requires-clause-inside : goal.write_out-requires-clause-inside
 write_out-requires-clause-inside c =
     ap (λ b. lie_inside (elements c.args.out.now) (finite.get b c.args.out.now.base)) c.compute.ensures.bases

@@ -8,6 +8,7 @@ use Rattle.arr_ops.specs.declared.op.Op.{Op}
 use Rattle.arr_ops.specs.Fits.{op_fits}
 use Rattle.arr_ops.specs.Memory.{Cell, computed, eager, without_slots}
 use Rattle.arr_ops.specs.Ops.{creates, freed_by}
+use Rattle.arr_ops.specs.Traffic.{scratch}
 use Rattle.arr_store.specs.Stored.{cells, memory_of}
 use Rattle.arr_loop.specs.Ready.{before_open}
 use Rattle.arr_loop.proofs.Lone.{Lone, creates_none, found_some, lone_op, serial_writes, slots_lone}
@@ -43,11 +44,15 @@ fill-requires-clause-fits c =
     ap (λ (f : ℕ → Option Cell). op_fits (record { bases = f; slots = λ s. None }) (c.in-Some.op ∷ []) c.in-Some.op) (sym (serial_unopened c.args.prepared.now.ops c.in-Some.op l c.ops.ensures.block (cells c.args.store.now)))
     ∙ serial_fits c.args.prepared.now.ops c.in-Some.op l c.ops.ensures.block (without_slots (before_open c.args.prepared.now.ops c.args.store.now c.args.slots.now)) c.requires.open.fit
 
+pub fill-requires-clause-writer : goal.fill-requires-clause-writer
+fill-requires-clause-writer c = ap (find (λ (op : Op). is_some op.out)) (sym c.ops.ensures.value) ∙ sym c.writer.ensures ∙ c.in-Some.is
+
 pub fill-requires-clause-enough : goal.fill-requires-clause-enough
 fill-requires-clause-enough c =
     let found : find (λ (op : Op). is_some op.out) c.args.prepared.now.ops ≡ Some c.in-Some.op = ap (find (λ (op : Op). is_some op.out)) (sym c.ops.ensures.value) ∙ sym c.writer.ensures ∙ c.in-Some.is in
     let l : Lone c.args.prepared.now.ops c.in-Some.op = lone_op c.args.prepared.now.ops c.in-Some.op c.ops.ensures.block c.requires.serial found in
-    subst (λ n. positions c.in-Some-out.out.lengths ≤ n) (sym c.ops.ensures.kept) (serial_kept c.args.prepared.now.ops c.in-Some.op l c.ops.ensures.block c.in-Some-out.out c.in-Some-out.is)
+    λ stays. subst (λ n. positions c.in-Some-out.out.lengths ≤ n)
+    (sym (c.ops.ensures.kept ∙ ap (λ b. cond b 0 (scratch c.args.prepared.now.ops)) stays)) (serial_kept c.args.prepared.now.ops c.in-Some.op l c.ops.ensures.block c.in-Some-out.out c.in-Some-out.is)
 
 pub drop_freed-requires : goal.drop_freed-requires
 drop_freed-requires c =

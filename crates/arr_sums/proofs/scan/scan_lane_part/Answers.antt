@@ -1,4 +1,4 @@
-use Rattle.std.proofs.Common.{◌≡◌, ◌∙◌, ◌+◌, ◌%◌, ◌<◌, ap, arith, cond, length, pos, get_or, set, sym, to_z, of_z}
+use Rattle.std.proofs.Common.{◌≡◌, ◌∙◌, ◌+◌, ◌%◌, ◌<◌, ap, arith, cond, length, pos, get_or, set, to_z, of_z}
 use Rattle.std.specs.Prelude.{◌==◌}
 use Rattle.std.specs.Int.{w128}
 use Rattle.arr_num.specs.Numbers.{value}

@@ -1,5 +1,5 @@
-use Rattle.std.proofs.Common.{◌≡◌, ◌+◌, ◌*◌, ◌/◌, ◌≤◌, ◌<◌, ℕ, ap, arith, refl, sym, ◌∙◌, ℤ, pos, get_or}
-use Rattle.arr_num.specs.Numbers.{in_type, value}
+use Rattle.std.proofs.Common.{◌+◌, ◌*◌, ◌/◌, ◌<◌, arith, refl, ℤ, pos}
+use Rattle.arr_num.specs.Numbers.{value}
 use Rattle.arr_native.specs.Entries.{entry}
 use Rattle.arr_strips.specs.Columns.{fold_upto}
 use Rattle.arr_sums.specs.Kept.{kept_at}

@@ -8,6 +8,7 @@ use Rattle.arr_machine.specs.Tasks.{AreTasks}
 use Rattle.arr_machine.proofs.Lines.{written_back}
 use Rattle.arr_contract.specs.Prepared.{PreparedBlock, may_share_block}
 use Rattle.arr_contract.proofs.Parallel.{block_typed, parallel_block}
+use Rattle.arr_contract.proofs.KeptNumbers.{kept_whole}
 use Rattle.arr_contract.proofs.prepared.Prepared.begin.Goals as goal
 
 pub begin_folds-requires : goal.begin_folds-requires
@@ -23,7 +24,7 @@ begin_folds-requires c =
       tasks = subst (λ o. AreTasks o c.self.inside.machine.room c.as_slice-2.result.now c.as_slice-3.result.now) (sym ops_are)
           (subst (λ l. AreTasks c.self.inside.ops.items c.self.inside.machine.room l c.as_slice-3.result.now) (sym c.as_slice-2.ensures.value)
           (subst (λ ts. AreTasks c.self.inside.ops.items c.self.inside.machine.room c.self.inside.machine.lanes.items ts) (sym c.as_slice-3.ensures.value) machine.tasks));
-      long = ap length c.as_mut_slice.ensures.value ∙ inv.6 ∙ ap scratch (sym ops_are);
+      long = ap length c.as_mut_slice.ensures.value ∙ inv.6 ∙ kept_whole c.self.inside.ops.items none ∙ ap scratch (sym ops_are);
     }
 
 pub returns-clause-kept : goal.returns-clause-kept

@@ -4,22 +4,23 @@ use Rattle.arr_ops.specs.declared.op.Op.{Op}
 use Rattle.arr_ops.specs.Costs.{reads, writes}
 use Rattle.arr_ops.specs.Ops.{serial}
 use Rattle.arr_ops.specs.Plans.{numbered, ops_of}
-use Rattle.arr_ops.specs.Traffic.{contracted, scratch}
+use Rattle.arr_ops.specs.Traffic.{contracted}
 use Rattle.arr_strips.specs.Registers.{register_views}
 use Rattle.arr_machine.specs.Machines.{IsMachineOf}
-use Rattle.arr_contract.specs.Prepared.{may_share_block, strip}
+use Rattle.arr_contract.specs.Making.{HasLane}
+use Rattle.arr_contract.specs.Prepared.{kept_numbers, may_share_block, strip}
 use Rattle.arr_contract.proofs.Counts.{few_ops}
 use Rattle.arr_contract.proofs.Parallel.{block_typed, parallel_block}
 use Rattle.arr_contract.proofs.Shared.{shares_block}
 use Rattle.arr_contract.proofs.prepared.Prepared.of.Goals as goal
 
-pub scratch-requires : goal.scratch-requires
-scratch-requires c =
+pub kept_numbers-requires : goal.kept_numbers-requires
+kept_numbers-requires c =
     let same : c.as_slice-5.result.now ≡ ops_of (numbered c.args.ops.now) c.args.block.now = c.as_slice-5.ensures.value ∙ c.in_ok-ops.ensures in
     let long : length c.as_slice-5.result.now ≡ length (ops_of (numbered c.args.ops.now) c.args.block.now) = ap length same in
     let few : length (ops_of (numbered c.args.ops.now) c.args.block.now) ≤ length c.args.ops.now = few_ops c.args.ops.now c.args.block.now in
     let most : length c.args.ops.now ≤ 256 = c.requires.few in
-    omega arith
+    record { few = omega arith; serial = c.in_ok-is_serial.ensures ∙ ap (list_any serial) (c.as_slice-4.ensures.value ∙ sym c.as_slice-5.ensures.value) }
 
 pub machine_for-requires : goal.machine_for-requires
 machine_for-requires c =
@@ -49,7 +50,8 @@ invariant_of-result c =
       c.in_ok-written_views.ensures ∙ ap writes c.as_slice-2.ensures.value,
       c.in_ok-contracted_bases.ensures ∙ ap contracted c.as_slice-3.ensures.value,
       c.in_ok-is_serial.ensures ∙ ap (list_any serial) c.as_slice-4.ensures.value,
-      numbers ∙ c.in_ok-count.ensures ∙ ap scratch c.as_slice-5.ensures.value,
+      numbers ∙ c.in_ok-count.ensures ∙ ap kept_numbers c.as_slice-5.ensures.value,
       (λ none. subst (λ (ops : List Op). IsMachineOf ops c.in_ok-machine.machine) c.as_slice-7.ensures.value (c.in_ok-machine.ensures.machine none)),
       (λ none. c.in_ok-machine.ensures.strip none ∙ ap strip c.as_slice-7.ensures.value),
+      (λ some. subst (λ (ops : List Op). HasLane ops c.in_ok-machine.machine) c.as_slice-7.ensures.value (c.in_ok-machine.ensures.lane some)),
     )

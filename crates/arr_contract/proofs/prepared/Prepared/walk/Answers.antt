@@ -1,9 +1,11 @@
-use Rattle.std.proofs.Common.{◌≡◌, ◌∙◌, ◌*◌, ◌≤◌, ap, arith, false, length, subst, sym, take, drop, ◌++◌}
+use Rattle.std.proofs.Common.{◌≡◌, ◌∙◌, ◌+◌, ◌*◌, ◌≤◌, ap, arith, false, length, subst, sym, take, drop, ◌++◌}
 use Rattle.std.specs.List.{AllByRecursion, list_any}
-use Rattle.arr_ops.specs.Costs.{reads}
+use Rattle.arr_view.specs.Strided.{Strided}
+use Rattle.arr_ops.specs.Costs.{reads, total}
 use Rattle.arr_ops.specs.Fits.{fits}
 use Rattle.arr_ops.specs.Ops.{serial}
 use Rattle.arr_ops.specs.Traffic.{scratch}
+use Rattle.arr_store.specs.Cells.{width_at}
 use Rattle.arr_store.specs.Slots.{slots_of}
 use Rattle.arr_store.specs.Stored.{cells}
 use Rattle.arr_strips.specs.Blocks.{block_positions, stores}
@@ -15,6 +17,7 @@ use Rattle.arr_machine.proofs.Lines.{written_back}
 use Rattle.arr_contract.specs.Prepared.{PreparedBlock, may_share_block}
 use Rattle.arr_contract.proofs.Counts.{few_reads, few_stores}
 use Rattle.arr_contract.proofs.Parallel.{block_typed, parallel_block}
+use Rattle.arr_contract.proofs.KeptNumbers.{kept_whole}
 use Rattle.arr_contract.proofs.prepared.Prepared.walk.Goals as goal
 
 pub walk-requires : goal.walk-requires
@@ -37,7 +40,7 @@ walk-requires c =
       few_stores = omega (arith, s, few);
       reads = subst (λ o. AllByRecursion (IsThere o (cells c.args.store.now)) (reads o)) (sym all) c.requires.reads;
       stores = subst (λ o. AllByRecursion (IsThere o (cells c.args.store.now)) (stores o)) (sym all) c.requires.stores;
-      long = ap length c.as_mut_slice.ensures.value ∙ inv.6 ∙ ap scratch (sym ops_are);
+      long = ap length c.as_mut_slice.ensures.value ∙ inv.6 ∙ kept_whole c.self.inside.ops.items none ∙ ap scratch (sym ops_are);
       kept = subst (λ o. TypedKept o c.as_mut_slice.result.now) (sym all) (subst (TypedKept c.args.self.now.ops) (sym numbers) c.requires.kept);
       slots = subst (λ o. SlotsMatch o (slots_of c.args.slots.now)) (sym all) c.requires.slots;
       loads = c.requires.loads;
@@ -67,3 +70,13 @@ pub returns-clause-slots : goal.returns-clause-slots
 returns-clause-slots c =
     let all : c.as_slice.result.now ≡ c.args.self.now.ops = c.as_slice.ensures.value ∙ ap (λ (v : PreparedBlock). v.ops) c.self.view_is in
     subst (λ o. SlotsMatch o (slots_of c.walk.new.slots)) all c.walk.ensures.slots
+
+pub returns-clause-loads : goal.returns-clause-loads
+returns-clause-loads c =
+    let all : c.as_slice.result.now ≡ c.args.self.now.ops = c.as_slice.ensures.value ∙ ap (λ (v : PreparedBlock). v.ops) c.self.view_is in
+    c.walk.ensures.loads ∙ ap (λ o. c.args.store.now.loads + block_positions o * total (λ (v : Strided). width_at (cells c.args.store.now v.base)) (reads o)) all
+
+pub returns-clause-saves : goal.returns-clause-saves
+returns-clause-saves c =
+    let all : c.as_slice.result.now ≡ c.args.self.now.ops = c.as_slice.ensures.value ∙ ap (λ (v : PreparedBlock). v.ops) c.self.view_is in
+    c.walk.ensures.saves ∙ ap (λ o. c.args.store.now.stores + block_positions o * total (λ (v : Strided). width_at (cells c.args.store.now v.base)) (stores o)) all

@@ -3,11 +3,8 @@ use Rattle.std.specs.Prelude.{MatchOption}
 use Rattle.arr_law.specs.ProblemOf.{problem_of}
 use Rattle.arr_law.specs.Trees.{may_branch}
 use Rattle.arr_state.specs.States.{Standing, known}
-use Rattle.arr_search.specs.Nodes.{IsDecided, IsNode}
+use Rattle.arr_search.specs.Nodes.{IsDecided}
 use Rattle.arr_search.proofs.gains.Candidates.pick.Goals as goal
-
-pub try_again-requires-clause-node : goal.try_again-requires-clause-node
-try_again-requires-clause-node c = subst (λ (s : Standing). IsNode (problem_of c.args.graph.now) (known s)) (sym c.in_ok-find.ensures.kept) c.requires.node
 
 pub returns-in_default-clause-picks : goal.returns-in_default-clause-picks
 returns-in_default-clause-picks c =
