@@ -3,6 +3,7 @@
 ghost use Rattle.std.specs.Prelude.{◌≡◌, IfOk, true};
 ghost use Rattle.arr_elab.specs.Recording.{is_recording};
 
+use arr_demo::demo_script;
 use arr_elab::{Step, elaborate};
 use arr_num::{Code, Elem};
 use arr_ops::{Op, Plan, list_formed};
@@ -76,6 +77,12 @@ fn a_script_is_recorded_and_rewritten(rt: HostRuntime) -> Result<(), Fail> {
             Part::Gather(_) | Part::Scatter(_) => assert!(&rt; false),
         }
     }
+    Ok(())
+}
+
+#[test]
+fn a_script_is_made(rt: HostRuntime) -> Result<(), Fail> {
+    assert!(rt; !demo_script(rt.alloc(), 7)?.is_empty());
     Ok(())
 }
 

@@ -1,5 +1,8 @@
 //! Calls of graphs, costs, planners, sets and certificates that take memory: each answers something else than want of it.
 
+ghost use Rattle.std.specs.Prelude.{IfOk, IsTrue};
+ghost use Rattle.arr_ops.specs.Formed.{is_formed};
+
 use arr_cert::{Item, Reader};
 use arr_cost::Costs;
 use arr_deps::Graph;
@@ -12,6 +15,7 @@ use arr_ops::{Op, Operand, list_formed};
 use arr_search::search;
 use arr_sets::{OpSet, Rows};
 use arr_view::View;
+use std::process::Abort;
 use std::test::Fail;
 
 /// One more than each of three numbers of a base, into a new base.
@@ -31,11 +35,19 @@ fn one_more(from: u32, to: u32) -> Result<Op, Fail> {
     })
 }
 
+/// Two such, one after the other.
+fn two_more(rt: &impl Abort) -> Result<[Op; 2], Fail>
+    ensures { IfOk result (λ list. IsTrue (is_formed list)) }
+{
+    let list = [one_more(0, 1)?, one_more(1, 2)?];
+    assert!(rt; list_formed(&list));
+    Ok(list)
+}
+
 #[test]
 fn lists_are_planned(rt: HostRuntime) -> Result<(), Fail> {
     let alloc = rt.alloc();
-    let list = [one_more(0, 1)?, one_more(1, 2)?];
-    assert!(rt; list_formed(&list));
+    let list = two_more(&rt)?;
     let graph = Graph::of(alloc, &list)?;
     let costs = Costs::of(alloc, &list)?;
     assert_eq!(rt; linear(alloc, &graph)?.blocks.len(), 1);
@@ -46,8 +58,7 @@ fn lists_are_planned(rt: HostRuntime) -> Result<(), Fail> {
 #[test]
 fn lists_are_searched(rt: HostRuntime) -> Result<(), Fail> {
     let alloc = rt.alloc();
-    let list = [one_more(0, 1)?, one_more(1, 2)?];
-    assert!(rt; list_formed(&list));
+    let list = two_more(&rt)?;
     let graph = Graph::of(alloc, &list)?;
     let costs = Costs::of(alloc, &list)?;
     let found = search(alloc, &graph, &costs, 1, 100)?;
@@ -59,8 +70,7 @@ fn lists_are_searched(rt: HostRuntime) -> Result<(), Fail> {
 #[test]
 fn blocks_are_priced(rt: HostRuntime) -> Result<(), Fail> {
     let alloc = rt.alloc();
-    let list = [one_more(0, 1)?, one_more(1, 2)?];
-    assert!(rt; list_formed(&list));
+    let list = two_more(&rt)?;
     let costs = Costs::of(alloc, &list)?;
     assert_eq!(rt; costs.block_cost(alloc, &[1])?, 48);
     assert_eq!(rt; costs.saving(alloc, &[1], &[2])?, 24);

@@ -1,4 +1,5 @@
-//! The program from words and bytes to bytes, with sources and sinks that give, take and fail as the test says.
+//! The program from words and bytes to bytes, with sources and sinks that give, take and fail as the test says. What it prints where nothing fails is
+//! tried on the built program, by tools/cases.py.
 
 ghost use Rattle.std.specs.Prelude.{◌<◌};
 
@@ -13,107 +14,67 @@ use std::test::Fail;
 const USAGE: &str =
     "usage: bohrium run [--plan|--cert] [--fuse=linear|greedy|best] [--budget=N] | bohrium check FILE | bohrium demo N\n";
 
-const SUM: &str = "a = range(5)\nc = a + a\nprint c\n";
+const MOVED: &str =
+    "a = range(4)\nb = gather(a, a - 1)\nscatter(a, a, b * 2)\nprint a\nflush\nprint a + 1\n";
 
-#[test]
-fn scripts_print_their_arrays(rt: HostRuntime) -> Result<(), Fail> {
-    let alloc = rt.alloc();
-    let ran = run(alloc, &["run"], SUM.as_bytes(), 0, 4096, 0)?;
-    assert_eq!(rt; ran.status, 0);
-    assert_eq!(rt; ran.written.as_slice(), b"i64 5\n0 2 4 6 8\n".as_slice());
-    Ok(())
-}
+const MOVED_PRINTED: &str = "i64 4\n6 0 2 4\ni64 4\n7 1 3 5\n";
 
-#[test]
-fn gathers_and_scatters_run(rt: HostRuntime) -> Result<(), Fail> {
-    let alloc = rt.alloc();
-    let rows = [
-        (
-            "a = range(5) * 10\ni = range(3) - 1\nb = gather(a, i)\nprint b\n",
-            0,
-            "i64 3\n40 0 10\n",
-        ),
-        (
-            "a = range(4)\nscatter(a, range(3) * 0, range(3) + 7)\nprint a\n",
-            0,
-            "i64 4\n9 1 2 3\n",
-        ),
-        (
-            "a = range(4) + 1\nscatter(a, a, a)\nprint a\n",
-            0,
-            "i64 4\n4 1 2 3\n",
-        ),
-        (
-            "a = gather(3, range(2))\n",
-            1,
-            "refused 1:12 TypeMismatch\n",
-        ),
-        (
-            "a = range(4)\nscatter(a, range(2), range(3))\n",
-            1,
-            "refused 2:1 ShapeMismatch\n",
-        ),
-    ];
-    for (script, status, text) in rows {
-        let ran = run(alloc, &["run"], script.as_bytes(), 0, 4096, 0)?;
-        assert_eq!(rt; ran.status, status, "{script}");
-        assert_eq!(rt; ran.written.as_slice(), text.as_bytes(), "{script}");
-    }
-    Ok(())
-}
+const ONE: &str = "print range(1)\n";
 
-#[test]
-fn plans_are_listed(rt: HostRuntime) -> Result<(), Fail> {
-    let alloc = rt.alloc();
-    let script = b"a = range(4)\nflush\nprint a\n";
-    let text =
-        b"# flush 1 recorded 1 rewritten 1 blocks 1 cost 32\n# op 1 RANGE +b0:i64@0[4:1]\n# block 1 cost 32 ops 1\n# flush 2 recorded 2 rewritten 2 blocks 1 cost 32\n# op 1 SYNC b0:i64@0[4:1] slot=1\n# op 2 FREE b0\n# block 1 cost 32 ops 1 2\ni64 4\n0 1 2 3\n";
-    for planner in ["--fuse=linear", "--fuse=greedy"] {
-        let ran = run(alloc, &["run", "--plan", planner], script, 0, 4096, 0)?;
-        assert_eq!(rt; ran.status, 0);
-        assert_eq!(rt; ran.written.as_slice(), text.as_slice());
-    }
-    Ok(())
-}
-
-const PRINTED: &str = "print range(1)\n";
-
-const CERTIFIED: &str =
+const ONE_CERTIFIED: &str =
     "# flush 1 recorded 3 rewritten 3 blocks 1 cost 0\n# op 1 RANGE +b0:i64@0[1:0]\n# op 2 SYNC b0:i64@0[1:0] slot=1\n# op 3 FREE b0\n# block 1 cost 0 ops 1 2 3\n# bound 0 units 0 optimal\n!flush 1 3 2\n!plan 1 1 1\n!cost 0\n!bound 0\n!worth\n!end\ni64 1\n0\n";
 
+/// Whether a run ends so, with a sink that takes a byte at each call: with this status and text, and with status 4 and the bytes before it where a
+/// call fails.
+fn is_cut_anywhere(
+    rt: &impl Abort,
+    alloc: Global,
+    words: &[&str],
+    script: &str,
+    status: u8,
+    text: &str,
+) -> Result<(), NoMemory> {
+    let text = text.as_bytes();
+    let whole = run(alloc, words, script.as_bytes(), 0, 1, 0)?;
+    assert_eq!(rt; whole.status, status);
+    assert_eq!(rt; whole.written.as_slice(), text);
+    for fails in 1..=text.len() {
+        let ran = run(alloc, words, script.as_bytes(), 0, 1, fails as u64)?;
+        assert_eq!(rt; ran.status, 4);
+        assert_eq!(rt; ran.written.as_slice(), &text[..fails - 1]);
+    }
+    Ok(())
+}
+
 #[test]
-fn certificates_are_written_and_accepted(rt: HostRuntime) -> Result<(), Fail> {
+fn each_writing_fault_ends_the_run(rt: HostRuntime) -> Result<(), Fail> {
     let alloc = rt.alloc();
-    let words = ["run", "--cert", "--fuse=best", "--budget=0"];
-    let ran = run(alloc, &words, PRINTED.as_bytes(), 0, 4096, 0)?;
-    assert_eq!(rt; ran.status, 0);
-    assert_eq!(rt; ran.written.as_slice(), CERTIFIED.as_bytes());
-    let checked = check(alloc, PRINTED.as_bytes(), &ran.written, 4096, 0)?;
-    assert_eq!(rt; checked.status, 0);
-    assert_eq!(rt;
-        checked.written.as_slice(),
-        b"flush 1 cost 0 bound 0 optimal\naccepted 1\n".as_slice()
-    );
+    is_cut_anywhere(&rt, alloc, &["run"], MOVED, 0, MOVED_PRINTED)?;
+    is_cut_anywhere(&rt, alloc, &["run"], "?", 1, "refused 1:1 BadByte\n")?;
+    is_cut_anywhere(&rt, alloc, &["run", "run"], MOVED, 2, USAGE)?;
     Ok(())
 }
 
 #[test]
 fn each_writing_fault_cuts_a_certificate(rt: HostRuntime) -> Result<(), Fail> {
-    let alloc = rt.alloc();
-    let text = CERTIFIED.as_bytes();
-    // A byte at each call.
-    for fails in 1..=text.len() {
-        let ran = run(
-            alloc,
-            &["run", "--cert"],
-            PRINTED.as_bytes(),
-            0,
-            1,
-            fails as u64,
-        )?;
-        assert_eq!(rt; ran.status, 4, "write {fails}");
-        assert_eq!(rt; ran.written.as_slice(), &text[..fails - 1], "write {fails}");
+    is_cut_anywhere(&rt, rt.alloc(), &["run", "--cert"], ONE, 0, ONE_CERTIFIED)?;
+    Ok(())
+}
+
+/// Whether a run whose source gives a byte at each call ends with status 3, and writes nothing, where a call fails: for each byte, and for the end.
+fn is_unread_anywhere(rt: &impl Abort, alloc: Global, script: &str) -> Result<(), NoMemory> {
+    let script = script.as_bytes();
+    for before in 0..=script.len() {
+        let ran = run(alloc, &["run"], script, before as u64 + 1, 1, 0)?;
+        assert_eq!(rt; ran.status, 3);
+        assert!(rt; ran.written.is_empty());
     }
+    Ok(())
+}
+
+#[test]
+fn each_reading_fault_ends_the_run(rt: HostRuntime) -> Result<(), Fail> {
+    is_unread_anywhere(&rt, rt.alloc(), MOVED)?;
     Ok(())
 }
 
@@ -122,28 +83,46 @@ const SUMMED: &str = "a = full([1], 7, i64)\nb = sum(a, 0)\nc = b + 1\nprint c\n
 const PROVED: &str =
     "!flush 1 7\n!plan 1 1 2 2 1 2 2\n!cost 16\n!bound 16\n!step 7 2 3 6\n!worth 2.0,3\n!end\n";
 
-#[test]
-fn proofs_are_checked(rt: HostRuntime) -> Result<(), Fail> {
-    let alloc = rt.alloc();
-    let rows = [
-        ("", "", 0, "accepted 0\n"),
-        ("", "!end\n", 6, "rejected flush 1 line 1 Trailing\n"),
-        (
-            SUMMED,
-            PROVED,
-            0,
-            "flush 1 cost 16 bound 16 optimal\naccepted 1\n",
-        ),
-        (SUMMED, "", 6, "rejected flush 1 line 1 Unfinished\n"),
-        ("a = $\n", PROVED, 1, "refused 1:5 BadByte\n"),
-    ];
-    for (script, proof, status, text) in rows {
-        for piece in [1, 4096] {
-            let ran = check(alloc, script.as_bytes(), proof.as_bytes(), piece, 0)?;
-            assert_eq!(rt; ran.status, status, "{proof}");
-            assert_eq!(rt; ran.written.as_slice(), text.as_bytes(), "{proof}");
-        }
+const ACCEPTED: &str = "flush 1 cost 16 bound 16 optimal\naccepted 1\n";
+
+/// Whether the check of a proof ends so, whether it comes byte by byte or in one piece.
+fn is_judged(
+    rt: &impl Abort,
+    alloc: Global,
+    script: &str,
+    proof: &str,
+    status: u8,
+    text: &str,
+) -> Result<(), NoMemory> {
+    for piece in [1, 4096] {
+        let ran = check(alloc, script.as_bytes(), proof.as_bytes(), piece, 0)?;
+        assert_eq!(rt; ran.status, status);
+        assert_eq!(rt; ran.written.as_slice(), text.as_bytes());
     }
+    Ok(())
+}
+
+#[test]
+fn proofs_are_judged(rt: HostRuntime) -> Result<(), Fail> {
+    let alloc = rt.alloc();
+    is_judged(&rt, alloc, SUMMED, PROVED, 0, ACCEPTED)?;
+    is_judged(
+        &rt,
+        alloc,
+        SUMMED,
+        "",
+        6,
+        "rejected flush 1 line 1 Unfinished\n",
+    )?;
+    is_judged(
+        &rt,
+        alloc,
+        "",
+        "!end\n",
+        6,
+        "rejected flush 1 line 1 Trailing\n",
+    )?;
+    is_judged(&rt, alloc, "a = $\n", PROVED, 1, "refused 1:5 BadByte\n")?;
     Ok(())
 }
 
@@ -160,74 +139,7 @@ fn reading_faults_of_a_proof_end_its_check(rt: HostRuntime) -> Result<(), Fail> 
     assert!(rt; first.written.is_empty());
     let later = check(alloc, SUMMED.as_bytes(), &proof, 4096, 40)?;
     assert_eq!(rt; later.status, 3);
-    assert_eq!(rt;
-        later.written.as_slice(),
-        b"flush 1 cost 16 bound 16 optimal\n".as_slice()
-    );
-    Ok(())
-}
-
-/// Whether words that name no command get the usage line, and status 4 where it can't be written.
-fn are_unknown(rt: &impl Abort, alloc: Global, words: &[&str]) -> Result<(), NoMemory> {
-    let ran = run(alloc, words, SUM.as_bytes(), 1, 4096, 0)?;
-    assert_eq!(rt; ran.status, 2);
-    assert_eq!(rt; ran.written.as_slice(), USAGE.as_bytes());
-    let silent = run(alloc, words, SUM.as_bytes(), 1, 4096, 1)?;
-    assert_eq!(rt; silent.status, 4);
-    assert!(rt; silent.written.is_empty());
-    Ok(())
-}
-
-#[test]
-fn other_words_get_the_usage_line(rt: HostRuntime) -> Result<(), Fail> {
-    let alloc = rt.alloc();
-    are_unknown(&rt, alloc, &[])?;
-    are_unknown(&rt, alloc, &["Run"])?;
-    are_unknown(&rt, alloc, &["run", "run"])?;
-    are_unknown(&rt, alloc, &["run", "--plan", "--cert"])?;
-    are_unknown(&rt, alloc, &["run", "--cert", "--fuse=greedy"])?;
-    are_unknown(&rt, alloc, &["run", "--budget=4000001"])?;
-    are_unknown(&rt, alloc, &["run", "--fuse=linear", "--plan"])?;
-    are_unknown(&rt, alloc, &["check"])?;
-    are_unknown(&rt, alloc, &["demo", "x"])?;
-    are_unknown(&rt, alloc, &[""])?;
-    Ok(())
-}
-
-#[test]
-fn each_reading_fault_ends_the_run(rt: HostRuntime) -> Result<(), Fail> {
-    let alloc = rt.alloc();
-    // A byte at each call, and one more call for the end.
-    for fails in 1..=SUM.len() as u64 + 1 {
-        let ran = run(alloc, &["run"], SUM.as_bytes(), fails, 1, 0)?;
-        assert_eq!(rt; ran.status, 3, "read {fails}");
-        assert!(rt; ran.written.is_empty(), "read {fails}");
-    }
-    let whole = run(alloc, &["run"], SUM.as_bytes(), SUM.len() as u64 + 2, 1, 0)?;
-    assert_eq!(rt; whole.status, 0);
-    assert_eq!(rt; whole.written.as_slice(), b"i64 5\n0 2 4 6 8\n".as_slice());
-    Ok(())
-}
-
-#[test]
-fn each_writing_fault_ends_the_run(rt: HostRuntime) -> Result<(), Fail> {
-    let alloc = rt.alloc();
-    let text = b"i64 5\n0 2 4 6 8\n";
-    for fails in 1..=text.len() {
-        let ran = run(alloc, &["run"], SUM.as_bytes(), 0, 1, fails as u64)?;
-        assert_eq!(rt; ran.status, 4, "write {fails}");
-        assert_eq!(rt; ran.written.as_slice(), &text[..fails - 1], "write {fails}");
-    }
-    let two = b"a = range(2)\nprint a\nflush\nprint a * 3\n";
-    let text = b"i64 2\n0 1\ni64 2\n0 3\n";
-    for fails in 1..=text.len() {
-        let ran = run(alloc, &["run"], two, 0, 1, fails as u64)?;
-        assert_eq!(rt; ran.status, 4, "write {fails}");
-        assert_eq!(rt; ran.written.as_slice(), &text[..fails - 1], "write {fails}");
-    }
-    let refusal = run(alloc, &["run"], b"?", 0, 1, 3)?;
-    assert_eq!(rt; refusal.status, 4);
-    assert_eq!(rt; refusal.written.as_slice(), b"re".as_slice());
+    assert_eq!(rt; later.written.as_slice(), &ACCEPTED.as_bytes()[..33]);
     Ok(())
 }
 
