@@ -1,12 +1,12 @@
 -- The rows of Apart stand behind those of Same.
-use Rattle.std.proofs.Common.{◌≡◌, ℕ, suc, ◌+◌, ◌*◌, ◌/◌, ◌%◌, ◌<◌, ◌≤◌, List, Bool, true, false, length, get_or, take, drop, refl, sym, ap, ◌∙◌, arith}
+use Rattle.std.proofs.Common.{◌≡◌, ℕ, ◌+◌, ◌*◌, ◌/◌, ◌%◌, ◌<◌, ◌≤◌, List, Bool, true, false, get_or, take, drop, refl, ap, ◌∙◌, arith}
 use Rattle.std.specs.Prelude.{◌==◌}
 use Rattle.std.specs.Int.{bit_at}
 use Rattle.std.proofs.lemmas.List.{get_or-take, get_or-drop}
 use Rattle.std.proofs.Math.Nat.{mul-le-mul_right}
 use Rattle.arr_law.specs.declared.fact.Fact.TheVariants.{Apart}
 use Rattle.arr_law.specs.Facts.{Facts}
-use Rattle.arr_state.specs.Rows.{AreApart, AreRowed, bit, bit_of, row_of}
+use Rattle.arr_state.specs.Rows.{AreApart, AreRowed, bit, row_of}
 
 bit_one : (b : Bool) → (bit b == 1) ≡ b
 bit_one true = refl

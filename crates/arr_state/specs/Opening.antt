@@ -1,8 +1,9 @@
 -- What a list alone gives, pair by pair.
-use Rattle.std.specs.Prelude.{ℕ, zero, suc, Bool, false, cond, not, ◌&&◌, ◌||◌, ◌==◌}
+use Rattle.std.specs.Prelude.{ℕ, zero, suc, Bool, List, false, cond, not, ◌&&◌, ◌||◌, ◌==◌}
 use Rattle.arr_law.specs.declared.fact.Fact.TheVariants.{Apart, Before}
 use Rattle.arr_law.specs.Problem.{Problem, ends_base_of}
 use Rattle.arr_law.specs.Facts.{Facts, with_fact}
+use Rattle.arr_state.specs.Rows.{AreRowed}
 
 abbrev pub no_facts : Facts
 no_facts x = false
@@ -37,3 +38,7 @@ users_below problem (suc u) g test = with_user problem (suc u) g (users_below pr
 abbrev pub all_users_below : Problem → ℕ → ℕ → ℕ → Bool
 all_users_below problem zero = no_test
 all_users_below problem (suc g) = users_below problem problem.count (suc g) (all_users_below problem g)
+
+-- rows of no facts come to say more: whatever test they said, they say a larger one
+abbrev pub Gain : ℕ → List ℕ → List ℕ → ((ℕ → ℕ → Bool) → ℕ → ℕ → Bool) → Type 0
+Gain n rows rows' larger = (test : ℕ → ℕ → Bool) → AreRowed n test rows no_facts → AreRowed n (larger test) rows' no_facts

@@ -1,11 +1,10 @@
 //! Pairs of which both Same and Apart are known.
 ghost use Rattle.std.specs.Prelude.{◌≡◌, ◌<◌, ◌≤◌, ◌*◌, ◌+◌, ◌/◌, ◌&&◌, ℕ, nat_lt, length, MatchOption};
-ghost use Rattle.arr_law.specs.Facts.{facts_of};
 ghost use Rattle.arr_law.specs.ProblemOf.{problem_of};
 ghost use Rattle.arr_law.specs.declared.fact.Fact.TheVariants.{Apart, Same};
 ghost use Rattle.arr_state.specs.Kept.{IsKept};
 ghost use Rattle.arr_state.specs.States.{IsConsistent};
-ghost use Rattle.arr_state.specs.Went.{IsClash};
+ghost use Rattle.arr_state.specs.Went.{IsClash, facts_in};
 
 use crate::known::{Known, count_of, is_known, row_word};
 use crate::rows::{APART, SAME};
@@ -15,7 +14,8 @@ use arr_ops::Op;
 /// Whether both are known of two operations, the lesser first.
 fn are_both(ops: &[Op], known: &Known, f: u32, g: u32) -> bool
     requires kept { IsKept (problem_of ops.now) known.now }
-    ensures { result ≡ (nat_lt f g && (facts_of (problem_of ops.now) known.now.facts.items (Same f g) && facts_of (problem_of ops.now) known.now.facts.items (Apart f g))) }
+    ensures { result ≡ (nat_lt f g && (facts_in ops.now known.now (Same f g)
+        && facts_in ops.now known.now (Apart f g))) }
 {
     f < g && is_known(ops, known, Fact::Same(f, g)) && is_known(ops, known, Fact::Apart(f, g))
 }
@@ -23,7 +23,8 @@ fn are_both(ops: &[Op], known: &Known, f: u32, g: u32) -> bool
 /// The two operations, the lesser first, where both are known of them.
 fn clash(ops: &[Op], known: &Known, f: u32, g: u32) -> Option<(u32, u32)>
     requires kept { IsKept (problem_of ops.now) known.now }
-    ensures { MatchOption result (IsClash (facts_of (problem_of ops.now) known.now.facts.items) f g → ⊥) (λ (x, y). IsClash (facts_of (problem_of ops.now) known.now.facts.items) x y) }
+    ensures { MatchOption result (IsClash (facts_in ops.now known.now) f g → ⊥)
+        (λ (x, y). IsClash (facts_in ops.now known.now) x y) }
 {
     if are_both(ops, known, f, g) {
         Some((f, g))
@@ -37,7 +38,7 @@ fn clash(ops: &[Op], known: &Known, f: u32, g: u32) -> Option<(u32, u32)>
 /// The two operations of a fact, where both are known of them.
 pub(crate) fn clash_at(ops: &[Op], known: &Known, fact: Fact) -> Option<(u32, u32)>
     requires kept { IsKept (problem_of ops.now) known.now }
-    ensures { MatchOption result (Unit {0}) (λ (x, y). IsClash (facts_of (problem_of ops.now) known.now.facts.items) x y) }
+    ensures { MatchOption result (Unit {0}) (λ (x, y). IsClash (facts_in ops.now known.now) x y) }
 {
     match fact {
         Fact::Same(f, g) => clash(ops, known, f, g),
@@ -51,7 +52,8 @@ fn clash_in_word(ops: &[Op], known: &Known, f: u32, i: u32) -> Option<(u32, u32)
     requires kept { IsKept (problem_of ops.now) known.now }
     requires within { f ≤ length ops.now }
     requires room { i ≤ length ops.now / 64 }
-    ensures { MatchOption result ((k : ℕ) → k < 64 → IsClash (facts_of (problem_of ops.now) known.now.facts.items) f (64 * i + k) → ⊥) (λ (x, y). IsClash (facts_of (problem_of ops.now) known.now.facts.items) x y) }
+    ensures { MatchOption result ((k : ℕ) → k < 64 → IsClash (facts_in ops.now known.now) f (64 * i + k) → ⊥)
+        (λ (x, y). IsClash (facts_in ops.now known.now) x y) }
 {
     if row_word(ops, known, SAME, f, i) & row_word(ops, known, APART, f, i) == 0 {
         return None;
@@ -69,7 +71,8 @@ fn clash_in_word(ops: &[Op], known: &Known, f: u32, i: u32) -> Option<(u32, u32)
 fn clash_in_row(ops: &[Op], known: &Known, f: u32) -> Option<(u32, u32)>
     requires kept { IsKept (problem_of ops.now) known.now }
     requires within { f ≤ length ops.now }
-    ensures { MatchOption result ((g : ℕ) → g ≤ length ops.now → IsClash (facts_of (problem_of ops.now) known.now.facts.items) f g → ⊥) (λ (x, y). IsClash (facts_of (problem_of ops.now) known.now.facts.items) x y) }
+    ensures { MatchOption result ((g : ℕ) → g ≤ length ops.now → IsClash (facts_in ops.now known.now) f g → ⊥)
+        (λ (x, y). IsClash (facts_in ops.now known.now) x y) }
 {
     for i in 0..count_of(ops) / 64 + 1 {
         match clash_in_word(ops, known, f, i) {
@@ -83,7 +86,8 @@ fn clash_in_row(ops: &[Op], known: &Known, f: u32) -> Option<(u32, u32)>
 /// Two operations of which both are known, if there are any.
 pub(crate) fn find_clash(ops: &[Op], known: &Known) -> Option<(u32, u32)>
     requires kept { IsKept (problem_of ops.now) known.now }
-    ensures { MatchOption result (IsConsistent (facts_of (problem_of ops.now) known.now.facts.items)) (λ (x, y). IsClash (facts_of (problem_of ops.now) known.now.facts.items) x y) }
+    ensures { MatchOption result (IsConsistent (facts_in ops.now known.now))
+        (λ (x, y). IsClash (facts_in ops.now known.now) x y) }
 {
     for f in 0..count_of(ops) + 1 {
         match clash_in_row(ops, known, f) {

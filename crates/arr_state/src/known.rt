@@ -1,11 +1,11 @@
 //! Facts that are known, in the order in which they came.
 ghost use Rattle.std.specs.Prelude.{◌≡◌, ◌<◌, ◌≤◌, ◌-◌, ◌/◌, ◌++◌, ◌∷◌, [], false, ◌&&◌, IfOk, OnErr, length, slice_index, take};
 ghost use Rattle.arr_law.specs.Problem.{ends_base_of, is_op};
-ghost use Rattle.arr_law.specs.Facts.{facts_of};
 ghost use Rattle.arr_law.specs.ProblemOf.{problem_of};
 ghost use Rattle.arr_state.specs.Kept.{IsKept};
 ghost use Rattle.arr_state.specs.Known.{AreOps};
 ghost use Rattle.arr_state.specs.Rows.{said, word_at};
+ghost use Rattle.arr_state.specs.Went.{facts_in};
 
 use crate::NoMemory;
 use crate::rows::{APART, BEFORE, SAME, row_start, set_rows};
@@ -52,7 +52,7 @@ pub(crate) fn has_bit(ops: &[Op], known: &Known, kind: usize, f: u32, g: u32) ->
     requires kind { kind < 6 }
     requires first { f ≤ length ops.now }
     requires second { g ≤ length ops.now }
-    ensures { result ≡ said (ends_base_of (problem_of ops.now)) (facts_of (problem_of ops.now) known.now.facts.items) kind f g }
+    ensures { result ≡ said (ends_base_of (problem_of ops.now)) (facts_in ops.now known.now) kind f g }
 {
     row_word(ops, known, kind, f, g / 64) >> (g % 64) & 1 == 1
 }
@@ -61,7 +61,9 @@ pub(crate) fn has_bit(ops: &[Op], known: &Known, kind: usize, f: u32, g: u32) ->
 fn has_both(ops: &[Op], known: &Known, kind: usize, f: u32, g: u32) -> bool
     requires kept { IsKept (problem_of ops.now) known.now }
     requires kind { kind < 6 }
-    ensures { result ≡ (is_op (problem_of ops.now) f && (is_op (problem_of ops.now) g && said (ends_base_of (problem_of ops.now)) (facts_of (problem_of ops.now) known.now.facts.items) kind f g)) }
+    ensures { result ≡ (is_op (problem_of ops.now) f
+        && (is_op (problem_of ops.now) g && said (ends_base_of (problem_of ops.now))
+        (facts_in ops.now known.now) kind f g)) }
 {
     is_operation(ops, f) && is_operation(ops, g) && has_bit(ops, known, kind, f, g)
 }
@@ -69,7 +71,7 @@ fn has_both(ops: &[Op], known: &Known, kind: usize, f: u32, g: u32) -> bool
 /// Whether a fact is known.
 pub(crate) fn is_known(ops: &[Op], known: &Known, fact: Fact) -> bool
     requires kept { IsKept (problem_of ops.now) known.now }
-    ensures { result ≡ facts_of (problem_of ops.now) known.now.facts.items fact }
+    ensures { result ≡ facts_in ops.now known.now fact }
 {
     match fact {
         Fact::Same(f, g) => has_both(ops, known, SAME, f, g),
@@ -82,7 +84,7 @@ pub(crate) fn is_known(ops: &[Op], known: &Known, fact: Fact) -> bool
 pub(crate) fn add(ops: &[Op], known: &mut Known, fact: Fact) -> Result<(), NoMemory>
     requires kept { IsKept (problem_of ops.now) known.old }
     requires about { AreOps (problem_of ops.now) fact }
-    requires new { facts_of (problem_of ops.now) known.old.facts.items fact ≡ false }
+    requires new { facts_in ops.now known.old fact ≡ false }
     ensures is { IfOk result (λ done. known.new.facts.items ≡ known.old.facts.items ++ fact ∷ []) }
     ensures kept { IsKept (problem_of ops.now) known.new }
     ensures err { OnErr result (known.new.facts.items ≡ known.old.facts.items) }

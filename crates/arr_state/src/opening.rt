@@ -10,7 +10,7 @@ ghost use Rattle.arr_ops.specs.Formed.{is_formed};
 ghost use Rattle.arr_ops.specs.Ops.{views};
 ghost use Rattle.arr_state.specs.Kept.{IsKept};
 ghost use Rattle.arr_state.specs.Known.{AreOps, HoldRoots, after};
-ghost use Rattle.arr_state.specs.Opening.{all_below, all_users_below, no_facts, row_below, users_below, with_pair, with_user};
+ghost use Rattle.arr_state.specs.Opening.{Gain, all_below, all_users_below, no_facts, row_below, users_below, with_pair, with_user};
 ghost use Rattle.arr_state.specs.Rows.{AreRowed, all_words};
 ghost use Rattle.arr_view.specs.Strided.{Strided};
 ghost use Rattle.arr_view.specs.Views.{has};
@@ -61,7 +61,8 @@ fn is_before(graph: &Graph, f: u32, g: u32) -> bool
 
 /// Joins a fact, if it is given.
 fn push_if(given: bool, roots: &mut Vec<Fact>, fact: Fact) -> Result<(), NoMemory>
-    ensures { IfOk result (λ done. after no_facts roots.new.items ≡ cond given (with_fact fact (after no_facts roots.old.items)) (after no_facts roots.old.items)) }
+    ensures { IfOk result (λ done. after no_facts roots.new.items
+        ≡ cond given (with_fact fact (after no_facts roots.old.items)) (after no_facts roots.old.items)) }
 {
     if given {
         roots.push(fact)?;
@@ -75,7 +76,8 @@ fn push_pair(graph: &Graph, roots: &mut Vec<Fact>, f: u32, g: u32) -> Result<(),
     requires first_most { f ≤ length graph.now }
     requires second_least { 0 < g }
     requires second_most { g ≤ length graph.now }
-    ensures { IfOk result (λ done. after no_facts roots.new.items ≡ with_pair (problem_of graph.now) f g (after no_facts roots.old.items)) }
+    ensures { IfOk result (λ done. after no_facts roots.new.items
+        ≡ with_pair (problem_of graph.now) f g (after no_facts roots.old.items)) }
 {
     push_if(are_apart(graph, f, g), roots, Fact::Apart(f, g))?;
     push_if(is_before(graph, f, g), roots, Fact::Before(f, g))?;
@@ -86,7 +88,8 @@ fn push_pair(graph: &Graph, roots: &mut Vec<Fact>, f: u32, g: u32) -> Result<(),
 fn push_row(graph: &Graph, roots: &mut Vec<Fact>, f: u32) -> Result<(), NoMemory>
     requires least { 0 < f }
     requires most { f ≤ length graph.now }
-    ensures { IfOk result (λ done. after no_facts roots.new.items ≡ row_below (problem_of graph.now) (length graph.now) f (after no_facts roots.old.items)) }
+    ensures { IfOk result (λ done. after no_facts roots.new.items
+        ≡ row_below (problem_of graph.now) (length graph.now) f (after no_facts roots.old.items)) }
 {
     for g in 0..graph.len() {
         push_pair(graph, roots, f, g + 1)?;
@@ -96,7 +99,8 @@ fn push_row(graph: &Graph, roots: &mut Vec<Fact>, f: u32) -> Result<(), NoMemory
 
 /// The facts that the list alone gives.
 pub(crate) fn roots_of(alloc: Global, graph: &Graph) -> Result<Vec<Fact>, NoMemory>
-    ensures is { IfOk result (λ roots. after no_facts roots.items ≡ all_below (problem_of graph.now) (length graph.now)) }
+    ensures is { IfOk result (λ roots. after no_facts roots.items
+        ≡ all_below (problem_of graph.now) (length graph.now)) }
     ensures held { IfOk result (λ roots. HoldRoots (problem_of graph.now) roots.items) }
 {
     let mut roots = Vec::new(alloc);
@@ -118,7 +122,8 @@ fn is_of(view: Option<&View>, base: u32) -> bool
 
 /// Whether one operation has a view of the base that another ends.
 fn ends_base(user: &Op, other: &Op) -> bool
-    ensures { result ≡ list_any (has (map (λ (v : Strided). v.base) (views user.now))) (option_to_list other.now.frees) }
+    ensures { result ≡ list_any (has (map (λ (v : Strided). v.base) (views user.now)))
+        (option_to_list other.now.frees) }
 {
     match other.frees {
         Some(base) => {
@@ -150,7 +155,7 @@ fn set_user(ops: &[Op], rows: &mut Vec<u64>, u: u32, g: u32)
     requires second_least { 0 < g }
     requires second_most { g ≤ length ops.now }
     ensures long { length rows.new.items ≡ all_words (length ops.now) }
-    ensures sets { (test : ℕ → ℕ → Bool) → AreRowed (length ops.now) test rows.old.items no_facts → AreRowed (length ops.now) (with_user (problem_of ops.now) u g test) rows.new.items no_facts }
+    ensures sets { Gain (length ops.now) rows.old.items rows.new.items (with_user (problem_of ops.now) u g) }
 {
     if ends_base_at(ops, u, g) {
         set_bit(rows, count_of(ops), ENDS, u, g, true);
@@ -165,7 +170,8 @@ fn set_users(ops: &[Op], rows: &mut Vec<u64>, g: u32)
     requires least { 0 < g }
     requires most { g ≤ length ops.now }
     ensures long { length rows.new.items ≡ all_words (length ops.now) }
-    ensures sets { (test : ℕ → ℕ → Bool) → AreRowed (length ops.now) test rows.old.items no_facts → AreRowed (length ops.now) (users_below (problem_of ops.now) (length ops.now) g test) rows.new.items no_facts }
+    ensures sets { Gain (length ops.now) rows.old.items rows.new.items
+        (users_below (problem_of ops.now) (length ops.now) g) }
 {
     for u in 0..count_of(ops) {
         set_user(ops, rows, u + 1, g);
@@ -175,7 +181,8 @@ fn set_users(ops: &[Op], rows: &mut Vec<u64>, g: u32)
 /// Rows that know which FREEs end bases of which operations have a view, and no fact.
 fn rows_of(alloc: Global, ops: &[Op]) -> Result<Vec<u64>, NoMemory>
     requires few { length ops.now ≤ 256 }
-    ensures { IfOk result (λ rows. AreRowed (length ops.now) (all_users_below (problem_of ops.now) (length ops.now)) rows.items no_facts) }
+    ensures { IfOk result (λ rows. AreRowed (length ops.now)
+        (all_users_below (problem_of ops.now) (length ops.now)) rows.items no_facts) }
 {
     let count = ops.len();
     let mut rows: Vec<u64> = vec![in alloc; 0; 6 * (count + 1) * (count / 64 + 1)]?;
@@ -189,7 +196,8 @@ fn rows_of(alloc: Global, ops: &[Op]) -> Result<Vec<u64>, NoMemory>
 fn known_rows(alloc: Global, ops: &[Op], facts: &[Fact]) -> Result<Vec<u64>, NoMemory>
     requires few { length ops.now ≤ 256 }
     requires about { (k : ℕ) → k < length facts.now → AreOps (problem_of ops.now) (get_or facts.now k (Same 0 0)) }
-    ensures { IfOk result (λ rows. AreRowed (length ops.now) (all_users_below (problem_of ops.now) (length ops.now)) rows.items (after no_facts facts.now)) }
+    ensures { IfOk result (λ rows. AreRowed (length ops.now)
+        (all_users_below (problem_of ops.now) (length ops.now)) rows.items (after no_facts facts.now)) }
 {
     let mut rows = rows_of(alloc, ops)?;
     for fact in facts {

@@ -3,7 +3,6 @@ ghost use Rattle.std.specs.Prelude.{◌≡◌, ◌<◌, ◌≤◌, ◌*◌, ◌+
 ghost use Rattle.std.specs.Int.{bit_at};
 ghost use Rattle.std.specs.List.{list_all};
 ghost use Rattle.arr_law.specs.Problem.{ends_base_of, is_op};
-ghost use Rattle.arr_law.specs.Facts.{facts_of};
 ghost use Rattle.arr_law.specs.ProblemOf.{problem_of};
 ghost use Rattle.arr_law.specs.Rules.{free_rule, rule_named};
 ghost use Rattle.arr_ops.specs.Formed.{all_pairs};
@@ -11,6 +10,7 @@ ghost use Rattle.arr_law.specs.declared.fact.Fact.TheVariants.{Before, Same};
 ghost use Rattle.arr_state.specs.Kept.{IsKept};
 ghost use Rattle.arr_state.specs.Rows.{bit};
 ghost use Rattle.arr_state.specs.Steps.{given};
+ghost use Rattle.arr_state.specs.Went.{facts_in};
 
 use crate::known::{Known, count_of, has_bit, is_known, is_operation, row_word};
 use crate::rows::{BEHIND, ENDS, USERS, put_bit};
@@ -40,7 +40,7 @@ fn are_different(operations: &[u32]) -> bool
 
 fn are_known(ops: &[Op], known: &Known, facts: &[Fact]) -> bool
     requires kept { IsKept (problem_of ops.now) known.now }
-    ensures { result ≡ list_all (facts_of (problem_of ops.now) known.now.facts.items) facts.now }
+    ensures { result ≡ list_all (facts_in ops.now known.now) facts.now }
 {
     facts.iter().all(|x| is_known(ops, known, *x))
 }
@@ -54,7 +54,8 @@ fn conclusion(
     gives: Fact,
 ) -> Option<Fact>
     requires kept { IsKept (problem_of ops.now) known.now }
-    ensures { result ≡ given (problem_of ops.now) (facts_of (problem_of ops.now) known.now.facts.items) (Some (record { operations = operations.now; premises = premises.now; gives = gives })) }
+    ensures { result ≡ given (problem_of ops.now) (facts_in ops.now known.now)
+        (Some (record { operations = operations.now; premises = premises.now; gives = gives })) }
 {
     if are_operations(ops, operations)
         && are_different(operations)
@@ -84,7 +85,9 @@ fn waiting(ops: &[Op], known: &Known, f: u32, g: u32, i: u32) -> u64
     requires first { f ≤ length ops.now }
     requires second { g ≤ length ops.now }
     requires room { i ≤ length ops.now / 64 }
-    ensures { (k : ℕ) → k < 64 → bit_at result k ≡ bit ((ends_base_of (problem_of ops.now) (64 * i + k) g && (not (64 * i + k == f) && not (64 * i + k == g))) && not (facts_of (problem_of ops.now) known.now.facts.items (Before (64 * i + k) f))) }
+    ensures { (k : ℕ) → k < 64 → bit_at result k
+        ≡ bit ((ends_base_of (problem_of ops.now) (64 * i + k) g && (not (64 * i + k == f) && not (64 * i + k == g)))
+        && not (facts_in ops.now known.now (Before (64 * i + k) f))) }
 {
     let users = row_word(ops, known, USERS, g, i);
     let before = row_word(ops, known, BEHIND, f, i);
@@ -96,7 +99,7 @@ fn are_before(ops: &[Op], known: &Known, f: u32, g: u32) -> bool
     requires kept { IsKept (problem_of ops.now) known.now }
     requires first { f ≤ length ops.now }
     requires second { g ≤ length ops.now }
-    ensures { result ≡ list_all (facts_of (problem_of ops.now) known.now.facts.items) (free_rule (problem_of ops.now) f g).premises }
+    ensures { result ≡ list_all (facts_in ops.now known.now) (free_rule (problem_of ops.now) f g).premises }
 {
     for i in 0..count_of(ops) / 64 + 1 {
         if waiting(ops, known, f, g, i) != 0 {
@@ -109,7 +112,11 @@ fn are_before(ops: &[Op], known: &Known, f: u32, g: u32) -> bool
 /// Whether the FREE g joins f, the user that all other users stand before.
 fn may_join(ops: &[Op], known: &Known, f: u32, g: u32) -> bool
     requires kept { IsKept (problem_of ops.now) known.now }
-    ensures { result ≡ (is_op (problem_of ops.now) f && (is_op (problem_of ops.now) g && (not (f == g) && (ends_base_of (problem_of ops.now) f g && (list_all (facts_of (problem_of ops.now) known.now.facts.items) (free_rule (problem_of ops.now) f g).premises && not (facts_of (problem_of ops.now) known.now.facts.items (Same f g))))))) }
+    ensures { result ≡ (is_op (problem_of ops.now) f
+        && (is_op (problem_of ops.now) g && (not (f == g)
+        && (ends_base_of (problem_of ops.now) f g
+        && (list_all (facts_in ops.now known.now) (free_rule (problem_of ops.now) f g).premises
+        && not (facts_in ops.now known.now (Same f g))))))) }
 {
     is_operation(ops, f)
         && is_operation(ops, g)
@@ -122,7 +129,8 @@ fn may_join(ops: &[Op], known: &Known, f: u32, g: u32) -> bool
 /// What rule 9 gives, where it applies.
 fn joined(ops: &[Op], known: &Known, f: u32, g: u32) -> Option<Fact>
     requires kept { IsKept (problem_of ops.now) known.now }
-    ensures { result ≡ given (problem_of ops.now) (facts_of (problem_of ops.now) known.now.facts.items) (rule_named (problem_of ops.now) 2 9 f g 0) }
+    ensures { result ≡ given (problem_of ops.now) (facts_in ops.now known.now)
+        (rule_named (problem_of ops.now) 2 9 f g 0) }
 {
     if may_join(ops, known, f, g) {
         Some(Fact::Same(f, g))
@@ -134,7 +142,8 @@ fn joined(ops: &[Op], known: &Known, f: u32, g: u32) -> Option<Fact>
 /// What the rule of a number gives at some operations, where it applies (docs/CERTIFICATES.md, "Rules").
 pub(crate) fn step(ops: &[Op], known: &Known, rule: u8, f: u32, g: u32, h: u32) -> Option<Fact>
     requires kept { IsKept (problem_of ops.now) known.now }
-    ensures { result ≡ given (problem_of ops.now) (facts_of (problem_of ops.now) known.now.facts.items) (rule_named (problem_of ops.now) 2 rule f g h) }
+    ensures { result ≡ given (problem_of ops.now) (facts_in ops.now known.now)
+        (rule_named (problem_of ops.now) 2 rule f g h) }
 {
     use Fact::{Apart, Before, Same};
     match rule {

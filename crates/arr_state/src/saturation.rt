@@ -9,7 +9,7 @@ ghost use Rattle.arr_state.specs.Known.{HoldRoots};
 ghost use Rattle.arr_state.specs.Sieves.{IsSieve};
 ghost use Rattle.arr_state.specs.States.{IsEnded, Saturated, TookStep};
 ghost use Rattle.arr_state.specs.Steps.{third};
-ghost use Rattle.arr_state.specs.Went.{Went};
+ghost use Rattle.arr_state.specs.Went.{Goes, facts_in};
 
 use crate::NoMemory;
 use crate::clash::{clash_at, find_clash};
@@ -46,7 +46,8 @@ fn attempt(
 ) -> Result<Going, NoMemory>
     requires kept { IsKept (problem_of ops.now) known.old }
     ensures kept { IsKept (problem_of ops.now) known.new }
-    ensures went { IfOk result (λ going. Went (problem_of ops.now) known.old known.new tree.old tree.new left going (Tried (problem_of ops.now) rule f g h)) }
+    ensures went { IfOk result (Goes ops.now left known.old known.new tree.old tree.new
+        (Tried (problem_of ops.now) rule f g h)) }
 {
     match step(ops, known, rule, f, g, h) {
         None => Ok(Going::On(left)),
@@ -81,7 +82,8 @@ pub(crate) fn take_step(
 ) -> Result<bool, NoMemory>
     requires kept { IsKept (problem_of ops.now) known.old }
     ensures kept { IsKept (problem_of ops.now) known.new }
-    ensures does { IfOk result (λ taken. TookStep (problem_of ops.now) rule f g h known.old.facts.items known.new.facts.items tree.old tree.new taken) }
+    ensures does { IfOk result (λ taken. TookStep
+        (problem_of ops.now) rule f g h known.old.facts.items known.new.facts.items tree.old tree.new taken) }
 {
     match step(ops, known, rule, f, g, h) {
         None => Ok(false),
@@ -109,7 +111,8 @@ fn try_at(
 ) -> Result<Going, NoMemory>
     requires kept { IsKept (problem_of ops.now) known.old }
     ensures kept { IsKept (problem_of ops.now) known.new }
-    ensures went { IfOk result (λ going. Went (problem_of ops.now) known.old known.new tree.old tree.new left going (TriedAt (problem_of ops.now) job c)) }
+    ensures went { IfOk result (Goes ops.now left known.old known.new tree.old tree.new
+        (TriedAt (problem_of ops.now) job c)) }
 {
     match job {
         Job::Two(rule, f, g) => attempt(ops, known, tree, left, rule, f, g, 0),
@@ -132,7 +135,8 @@ fn try_word(
     requires kept { IsKept (problem_of ops.now) known.old }
     requires small { base < 2 ^ 17 }
     ensures kept { IsKept (problem_of ops.now) known.new }
-    ensures went { IfOk result (λ going. Went (problem_of ops.now) known.old known.new tree.old tree.new left going (WordTried (problem_of ops.now) job base word)) }
+    ensures went { IfOk result (Goes ops.now left known.old known.new tree.old tree.new
+        (WordTried (problem_of ops.now) job base word)) }
 {
     let mut bits = word;
     while bits != 0 {
@@ -159,7 +163,8 @@ fn try_rows(
     requires kept { IsKept (problem_of ops.now) known.old }
     requires sieve { IsSieve (problem_of ops.now) job sieve }
     ensures kept { IsKept (problem_of ops.now) known.new }
-    ensures went { IfOk result (λ going. Went (problem_of ops.now) known.old known.new tree.old tree.new left going (JobTried (problem_of ops.now) job)) }
+    ensures went { IfOk result (Goes ops.now left known.old known.new tree.old tree.new
+        (JobTried (problem_of ops.now) job)) }
 {
     for i in 0..count_of(ops) / 64 + 1 {
         let word = sifted(ops, known, sieve, i);
@@ -182,7 +187,8 @@ fn try_each(
 ) -> Result<Going, NoMemory>
     requires kept { IsKept (problem_of ops.now) known.old }
     ensures kept { IsKept (problem_of ops.now) known.new }
-    ensures went { IfOk result (λ going. Went (problem_of ops.now) known.old known.new tree.old tree.new left going (JobTried (problem_of ops.now) job)) }
+    ensures went { IfOk result (Goes ops.now left known.old known.new tree.old tree.new
+        (JobTried (problem_of ops.now) job)) }
 {
     for c in 0..count_of(ops) + 1 {
         match try_at(ops, known, tree, left, job, c)? {
@@ -204,7 +210,8 @@ fn try_job(
 ) -> Result<Going, NoMemory>
     requires kept { IsKept (problem_of ops.now) known.old }
     ensures kept { IsKept (problem_of ops.now) known.new }
-    ensures went { IfOk result (λ going. Went (problem_of ops.now) known.old known.new tree.old tree.new left going (JobTried (problem_of ops.now) job)) }
+    ensures went { IfOk result (Goes ops.now left known.old known.new tree.old tree.new
+        (JobTried (problem_of ops.now) job)) }
 {
     if let Job::Two(rule, f, g) = job {
         return attempt(ops, known, tree, left, rule, f, g, 0);
@@ -228,7 +235,8 @@ fn try_jobs(
 ) -> Result<Going, NoMemory>
     requires kept { IsKept (problem_of ops.now) known.old }
     ensures kept { IsKept (problem_of ops.now) known.new }
-    ensures went { IfOk result (λ going. Went (problem_of ops.now) known.old known.new tree.old tree.new left going (JobsBelow (problem_of ops.now) (length jobs.now) jobs.now)) }
+    ensures went { IfOk result (Goes ops.now left known.old known.new tree.old tree.new
+        (JobsBelow (problem_of ops.now) (length jobs.now) jobs.now)) }
 {
     for job in jobs {
         match try_job(ops, known, tree, left, *job)? {
@@ -250,7 +258,8 @@ fn touch(
 ) -> Result<Going, NoMemory>
     requires kept { IsKept (problem_of ops.now) known.old }
     ensures kept { IsKept (problem_of ops.now) known.new }
-    ensures went { IfOk result (λ going. Went (problem_of ops.now) known.old known.new tree.old tree.new left going (IsTouched (problem_of ops.now) fact)) }
+    ensures went { IfOk result (Goes ops.now left known.old known.new tree.old tree.new
+        (IsTouched (problem_of ops.now) fact)) }
 {
     use Job::{Behind, Frees, Front, Two};
     match fact {
@@ -296,7 +305,8 @@ fn touch_roots(
 ) -> Result<Going, NoMemory>
     requires kept { IsKept (problem_of ops.now) known.old }
     ensures kept { IsKept (problem_of ops.now) known.new }
-    ensures went { IfOk result (λ going. Went (problem_of ops.now) known.old known.new tree.old tree.new left going (AreTouched (problem_of ops.now) roots.now)) }
+    ensures went { IfOk result (Goes ops.now left known.old known.new tree.old tree.new
+        (AreTouched (problem_of ops.now) roots.now)) }
 {
     for fact in roots {
         match touch(ops, known, tree, left, *fact)? {
@@ -318,7 +328,8 @@ fn try_frees(
 ) -> Result<Going, NoMemory>
     requires kept { IsKept (problem_of ops.now) known.old }
     ensures kept { IsKept (problem_of ops.now) known.new }
-    ensures went { IfOk result (λ going. Went (problem_of ops.now) known.old known.new tree.old tree.new left going (FreesBelow (problem_of ops.now) (length ops.now + 1) f)) }
+    ensures went { IfOk result (Goes ops.now left known.old known.new tree.old tree.new
+        (FreesBelow (problem_of ops.now) (length ops.now + 1) f)) }
 {
     for g in 0..count_of(ops) + 1 {
         match attempt(ops, known, tree, left, 9, f, g, 0)? {
@@ -339,7 +350,8 @@ fn try_all_frees(
 ) -> Result<Going, NoMemory>
     requires kept { IsKept (problem_of ops.now) known.old }
     ensures kept { IsKept (problem_of ops.now) known.new }
-    ensures went { IfOk result (λ going. Went (problem_of ops.now) known.old known.new tree.old tree.new left going (AllFreesBelow (problem_of ops.now) (length ops.now + 1))) }
+    ensures went { IfOk result (Goes ops.now left known.old known.new tree.old tree.new
+        (AllFreesBelow (problem_of ops.now) (length ops.now + 1))) }
 {
     for f in 0..count_of(ops) + 1 {
         match try_frees(ops, known, tree, left, f)? {
@@ -361,9 +373,11 @@ fn work_off(
 ) -> Result<Going, NoMemory>
     requires kept { IsKept (problem_of ops.now) known.old }
     requires within { head ≤ length known.old.facts.items }
-    requires covered { Covered (problem_of ops.now) (facts_of (problem_of ops.now) (take head known.old.facts.items)) (facts_of (problem_of ops.now) known.old.facts.items) }
+    requires covered { Covered (problem_of ops.now) (facts_of (problem_of ops.now) (take head known.old.facts.items))
+        (facts_in ops.now known.old) }
     ensures kept { IsKept (problem_of ops.now) known.new }
-    ensures went { IfOk result (λ going. Went (problem_of ops.now) known.old known.new tree.old tree.new left going (λ before after. IsClosed (problem_of ops.now) after)) }
+    ensures went { IfOk result (Goes ops.now left known.old known.new tree.old tree.new
+        (λ before after. IsClosed (problem_of ops.now) after)) }
 {
     while head < known.facts.len() {
         let fact = known.facts[head];
@@ -388,7 +402,8 @@ fn start(
     requires kept { IsKept (problem_of ops.now) known.old }
     requires roots { HoldRoots (problem_of ops.now) roots.now }
     ensures kept { IsKept (problem_of ops.now) known.new }
-    ensures went { IfOk result (λ going. Went (problem_of ops.now) known.old known.new tree.old tree.new left going (λ before after. Covered (problem_of ops.now) (root_facts (problem_of ops.now)) after)) }
+    ensures went { IfOk result (Goes ops.now left known.old known.new tree.old tree.new
+        (λ before after. Covered (problem_of ops.now) (root_facts (problem_of ops.now)) after)) }
 {
     match touch_roots(ops, known, tree, left, roots)? {
         Going::On(rest) => try_all_frees(ops, known, tree, rest),
@@ -408,7 +423,8 @@ fn settle(
     requires kept { IsKept (problem_of ops.now) known.old }
     requires roots { HoldRoots (problem_of ops.now) roots.now }
     ensures kept { IsKept (problem_of ops.now) known.new }
-    ensures went { IfOk result (λ going. Went (problem_of ops.now) known.old known.new tree.old tree.new left going (λ before after. IsClosed (problem_of ops.now) after)) }
+    ensures went { IfOk result (Goes ops.now left known.old known.new tree.old tree.new
+        (λ before after. IsClosed (problem_of ops.now) after)) }
 {
     let count = known.closed.len();
     if count > 0 {
@@ -425,7 +441,7 @@ fn settle(
 /// An outcome, or the contradiction that is known.
 fn ended(ops: &[Op], known: &Known, outcome: Outcome) -> Outcome
     requires kept { IsKept (problem_of ops.now) known.now }
-    ensures { IsEnded (facts_of (problem_of ops.now) known.now.facts.items) outcome result }
+    ensures { IsEnded (facts_in ops.now known.now) outcome result }
 {
     match find_clash(ops, known) {
         Some((f, g)) => Outcome::Contradiction(f, g),
@@ -444,7 +460,8 @@ pub(crate) fn saturate(
     requires kept { IsKept (problem_of ops.now) known.old }
     requires roots { HoldRoots (problem_of ops.now) roots.now }
     ensures kept { IsKept (problem_of ops.now) known.new }
-    ensures does { IfOk result (λ outcome. Saturated (problem_of ops.now) budget known.old.facts.items known.new.facts.items tree.old tree.new outcome) }
+    ensures does { IfOk result (λ outcome. Saturated
+        (problem_of ops.now) budget known.old.facts.items known.new.facts.items tree.old tree.new outcome) }
 {
     match settle(ops, known, tree, budget, roots)? {
         Going::On(_) => {

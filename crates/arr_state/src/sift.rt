@@ -1,6 +1,5 @@
 //! Where a rule may give something: rows of bits, many operations at a time.
 ghost use Rattle.std.specs.Prelude.{◌≡◌, ◌<◌, ◌≤◌, ◌+◌, ◌/◌, ◌&&◌, ℕ, true, get_or, length, MatchOption};
-ghost use Rattle.arr_law.specs.Facts.{facts_of};
 ghost use Rattle.arr_law.specs.ProblemOf.{problem_of};
 ghost use Rattle.arr_law.specs.declared.fact.Fact.TheVariants.{Apart, Before};
 ghost use Rattle.arr_state.specs.declared.jobs.Job.TheVariants.{Behind, Frees, Front};
@@ -8,6 +7,7 @@ ghost use Rattle.arr_state.specs.Jobs.{TriedAt};
 ghost use Rattle.arr_state.specs.Kept.{IsKept};
 ghost use Rattle.arr_state.specs.Rows.{sifted};
 ghost use Rattle.arr_state.specs.Sieves.{FitsIn, IsSieve, sieve_at};
+ghost use Rattle.arr_state.specs.Went.{facts_in};
 
 use crate::jobs::Job;
 use crate::known::{Known, count_of, is_known, is_operation};
@@ -28,7 +28,8 @@ pub(crate) fn sifted(ops: &[Op], known: &Known, sieve: Sieve, i: u32) -> u64
     requires kept { IsKept (problem_of ops.now) known.now }
     requires fits { FitsIn (length ops.now) sieve }
     requires room { i ≤ length ops.now / 64 }
-    ensures { result ≡ sifted (get_or known.now.rows.items (sieve.first + i) 0) (get_or known.now.rows.items (sieve.second + i) 0) (get_or known.now.rows.items (sieve.third + i) 0) }
+    ensures { result ≡ sifted (get_or known.now.rows.items (sieve.first + i) 0)
+        (get_or known.now.rows.items (sieve.second + i) 0) (get_or known.now.rows.items (sieve.third + i) 0) }
 {
     let first = known.rows[sieve.first + i as usize];
     let second = known.rows[sieve.second + i as usize];
@@ -114,7 +115,7 @@ pub(crate) fn sieve_of(ops: &[Op], job: Job) -> Option<Sieve>
 /// Whether an operation is known to stand before another, and apart from it.
 fn stands_off(ops: &[Op], known: &Known, f: u32, g: u32) -> bool
     requires kept { IsKept (problem_of ops.now) known.now }
-    ensures { result ≡ (facts_of (problem_of ops.now) known.now.facts.items (Before f g) && facts_of (problem_of ops.now) known.now.facts.items (Apart f g)) }
+    ensures { result ≡ (facts_in ops.now known.now (Before f g) && facts_in ops.now known.now (Apart f g)) }
 {
     is_known(ops, known, Fact::Before(f, g)) && is_known(ops, known, Fact::Apart(f, g))
 }
@@ -122,7 +123,8 @@ fn stands_off(ops: &[Op], known: &Known, f: u32, g: u32) -> bool
 /// Whether a premise of which the open place is no part is missing, so that a job gives nothing.
 pub(crate) fn is_idle(ops: &[Op], known: &Known, job: Job) -> bool
     requires kept { IsKept (problem_of ops.now) known.now }
-    ensures { result ≡ true → (c : ℕ) → TriedAt (problem_of ops.now) job c (facts_of (problem_of ops.now) known.now.facts.items) (facts_of (problem_of ops.now) known.now.facts.items) }
+    ensures { result ≡ true → (c : ℕ) → TriedAt (problem_of ops.now) job c (facts_in ops.now known.now)
+        (facts_in ops.now known.now) }
 {
     match job {
         Job::Behind(rule, f, g) => rule == 7 && !stands_off(ops, known, f, g),

@@ -119,7 +119,8 @@ impl State {
         tree: &mut Records,
     ) -> Result<bool, NoMemory>
         ensures list { self.new.list ≡ self.old.list }
-        ensures does { IfOk result (λ taken. TookStep (problem_of self.old.list) rule f g h self.old.trail self.new.trail tree.old tree.new taken) }
+        ensures does { IfOk result (λ taken. TookStep
+            (problem_of self.old.list) rule f g h self.old.trail self.new.trail tree.old tree.new taken) }
     {
         take_step(self.ops.as_slice(), &mut self.held, tree, rule, f, g, h)
     }
@@ -131,7 +132,8 @@ impl State {
     pub fn saturate(&mut self, budget: u64, tree: &mut Records) -> Result<Outcome, NoMemory>
         ensures list { self.new.list ≡ self.old.list }
         ensures about { (x : Fact) → IsTrue (known self.new x) → AreOps (problem_of self.new.list) x }
-        ensures does { IfOk result (λ outcome. Saturated (problem_of self.old.list) budget self.old.trail self.new.trail tree.old tree.new outcome) }
+        ensures does { IfOk result (λ outcome. Saturated
+            (problem_of self.old.list) budget self.old.trail self.new.trail tree.old tree.new outcome) }
     {
         saturate(
             self.ops.as_slice(),

@@ -1,4 +1,4 @@
-use Rattle.std.proofs.Common.{◌≡◌, ℕ, ◌+◌, ◌*◌, ◌/◌, ◌∙◌, List, length, take, drop, ap, sym, subst, arith}
+use Rattle.std.proofs.Common.{◌≡◌, ℕ, ◌+◌, ◌*◌, ◌/◌, ◌∙◌, length, take, drop, ap, sym, subst}
 use Rattle.arr_law.specs.Problem.{ends_base_of}
 use Rattle.arr_law.specs.Facts.{facts_of}
 use Rattle.arr_law.specs.ProblemOf.{problem_of}
