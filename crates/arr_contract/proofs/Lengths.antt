@@ -1,30 +1,13 @@
 -- The lengths before an axis, and those behind it.
-use Rattle.std.proofs.Common.{◌≡◌, ℕ, zero, suc, add-one, ◌+◌, ◌-◌, ◌*◌, ◌<◌, ◌≤◌, List, [], ◌∷◌, Bool, true, false, ◌&&◌, length, get_or, take, drop, refl, ap, sym, ◌∙◌, arith}
+use Rattle.std.proofs.Common.{◌≡◌, ℕ, zero, suc, add-one, ◌+◌, ◌-◌, ◌*◌, ◌<◌, ◌≤◌, List, [], ◌∷◌, true, length, get_or, take, drop, refl, ap, sym, ◌∙◌, arith}
 use Rattle.std.specs.Prelude.{nat_le}
 use Rattle.std.specs.List.{list_all}
 use Rattle.std.proofs.Math.Nat.{mul_assoc, mul_comm}
-use Rattle.std.proofs.lemmas.Bool.{false≢true}
 use Rattle.std.proofs.lemmas.List.{length-drop, take_all}
 use Rattle.arr_view.specs.Views.{positions}
 use Rattle.arr_view.proofs.Counting.{some_position, value_more}
 use Rattle.arr_ops.proofs.Lengths.{positions_at}
 use Rattle.arr_ops.proofs.Tests.{both_left, both_right}
-
--- ---- each is at least 1
-
-pub all_front : (ns : List ℕ) (k : ℕ) → list_all (nat_le 1) ns ≡ true → list_all (nat_le 1) (take k ns) ≡ true
-all_front ns zero h = refl
-all_front [] (suc k) h = refl
-all_front (n ∷ ns) (suc k) h = both_true (nat_le 1 n) (list_all (nat_le 1) (take k ns)) (both_left (nat_le 1 n) _ h) (all_front ns k (both_right (nat_le 1 n) _ h))
-  where
-    both_true : (a b : Bool) → a ≡ true → b ≡ true → (a && b) ≡ true
-    both_true true b x y = y
-    both_true false b x y = absurd (false≢true x)
-
-pub all_back : (ns : List ℕ) (k : ℕ) → list_all (nat_le 1) ns ≡ true → list_all (nat_le 1) (drop k ns) ≡ true
-all_back ns zero h = h
-all_back [] (suc k) h = refl
-all_back (n ∷ ns) (suc k) h = all_back ns k (both_right (nat_le 1 n) _ h)
 
 pub behind : (ns : List ℕ) (axis : ℕ) → take (length ns - (axis + 1)) (drop (axis + 1) ns) ≡ drop (suc axis) ns
 behind ns axis =

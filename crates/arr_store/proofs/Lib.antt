@@ -4,4 +4,5 @@ pub mod Lawful
 pub mod Updates
 pub mod Pages
 pub mod Places
+pub mod Sides
 pub mod Picked

@@ -1,5 +1,5 @@
 //! Numbers that lie a stride apart, copied to a place of a lane and back.
-ghost use Rattle.std.specs.Prelude.{ℕ, ◌≡◌, ◌+◌, ◌*◌, ◌<◌, ◌≤◌, drop, get_or, length, map, pos, take, true};
+ghost use Rattle.std.specs.Prelude.{ℕ, ◌≡◌, ◌+◌, ◌*◌, ◌<◌, ◌≤◌, ◌++◌, drop, get_or, length, map, pos, take, true};
 ghost use Rattle.std.specs.List.{list_all};
 ghost use Rattle.arr_num.specs.Numbers.{in_type, width};
 ghost use Rattle.arr_ops.specs.Memory.{write};
@@ -120,8 +120,17 @@ impl Buffer {
     }
 }
 
-/// Copies the numbers of a run to a list, from its place `at` on. With a stride of 1 known where it is compiled, the loop is a copy
-/// of a slice.
+/// Copies so many numbers of a list, from a place on, to another list, from its place `at` on.
+#[inline(always)]
+fn copy_numbers<T: Copy>(out: &mut [T], at: usize, source: &[T], from: usize, count: usize)
+    requires out { at + count ≤ length out.old }
+    requires source { from + count ≤ length source.now }
+    ensures { out.new ≡ take at out.old ++ (take count (drop from source.now) ++ drop (at + count) out.old) }
+{
+    out[at..at + count].copy_from_slice(&source[from..from + count]);
+}
+
+/// Copies the numbers of a run to a list, from its place `at` on. Numbers that lie side by side are copied as a slice.
 #[inline(always)]
 fn gather<T: Copy>(out: &mut [T], at: usize, source: &[T], run: Run)
     requires out { at + run.count ≤ length out.old }
@@ -132,25 +141,16 @@ fn gather<T: Copy>(out: &mut [T], at: usize, source: &[T], run: Run)
     ensures before { (k : ℕ) (d : T) → k < at → get_or out.new k d ≡ get_or out.old k d }
     ensures behind { (k : ℕ) (d : T) → at + run.count ≤ k → get_or out.new k d ≡ get_or out.old k d }
 {
-    if run.stride == 1 {
-        gather_by(
-            out,
-            at,
-            source,
-            Run {
-                start: run.start,
-                stride: 1,
-                count: run.count,
-            },
-        );
+    if run.stride == 1 && run.count > 0 {
+        copy_numbers(out, at, source, run.start as usize, run.count);
         return;
     }
-    gather_by(out, at, source, run);
+    gather_each(out, at, source, run);
 }
 
-/// The same, whatever is known of the stride.
+/// The same, one number after another.
 #[inline(always)]
-fn gather_by<T: Copy>(out: &mut [T], at: usize, source: &[T], run: Run)
+fn gather_each<T: Copy>(out: &mut [T], at: usize, source: &[T], run: Run)
     requires out { at + run.count ≤ length out.old }
     requires there { LiesIn (length source.now) run.start run.stride run.count }
     ensures length { length out.new ≡ length out.old }
@@ -166,8 +166,7 @@ fn gather_by<T: Copy>(out: &mut [T], at: usize, source: &[T], run: Run)
     }
 }
 
-/// Copies numbers of a list, from its place `at` on, to the places of a run. With a stride of 1 known where it is compiled, the loop
-/// is a copy of a slice.
+/// Copies numbers of a list, from its place `at` on, to the places of a run. Numbers that lie side by side are copied as a slice.
 #[inline(always)]
 fn scatter<T: Native>(out: &mut [T], source: &[T], at: usize, run: Run)
     requires source { at + run.count ≤ length source.now }
@@ -177,25 +176,27 @@ fn scatter<T: Native>(out: &mut [T], source: &[T], at: usize, run: Run)
         (take run.count (drop at (map T.number source.now))) (map T.number out.old) }
     ensures typed { list_all (in_type T.elem) (take run.count (drop at (map T.number source.now))) ≡ true }
 {
-    if run.stride == 1 {
-        scatter_by(
-            out,
-            source,
-            at,
-            Run {
-                start: run.start,
-                stride: 1,
-                count: run.count,
-            },
-        );
+    if run.stride == 1 && run.count > 0 {
+        are_typed(source);
+        copy_numbers(out, run.start as usize, source, at, run.count);
         return;
     }
-    scatter_by(out, source, at, run);
+    scatter_each(out, source, at, run);
 }
 
-/// The same, whatever is known of the stride.
+/// Numbers of a native type are of its type. Nothing is left of the loop where it is compiled.
 #[inline(always)]
-fn scatter_by<T: Native>(out: &mut [T], source: &[T], at: usize, run: Run)
+fn are_typed<T: Native>(numbers: &[T])
+    ensures { list_all (in_type T.elem) (map T.number numbers.now) ≡ true }
+{
+    for i in 0..numbers.len() {
+        let _same = numbers[i].itself();
+    }
+}
+
+/// The same, one number after another.
+#[inline(always)]
+fn scatter_each<T: Native>(out: &mut [T], source: &[T], at: usize, run: Run)
     requires source { at + run.count ≤ length source.now }
     requires there { LiesIn (length out.old) run.start run.stride run.count }
     ensures length { length out.new ≡ length out.old }

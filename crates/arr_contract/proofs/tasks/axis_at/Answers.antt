@@ -3,12 +3,13 @@ use Rattle.std.specs.Prelude.{nat_le}
 use Rattle.std.specs.List.{list_all}
 use Rattle.arr_view.specs.Views.{positions}
 use Rattle.arr_view.proofs.Checks.{lawful}
-use Rattle.arr_contract.proofs.Lengths.{all_front, behind, few_back, few_front}
+use Rattle.arr_store.proofs.Sides.{all_front}
+use Rattle.arr_contract.proofs.Lengths.{behind, few_back, few_front}
 use Rattle.arr_contract.proofs.tasks.axis_at.Goals as goal
 
 pub product-requires-clause-each : goal.product-requires-clause-each
 product-requires-clause-each c =
-    ap (λ xs. list_all (nat_le 1) (take c.args.axis xs)) c.shape-shape.ensures.value ∙ all_front c.args.view.now.lengths c.args.axis (lawful c.args.view.now c.shape-shape.ensures.lawful).lengths
+    ap (λ xs. list_all (nat_le 1) (take c.args.axis xs)) c.shape-shape.ensures.value ∙ all_front (nat_le 1) c.args.view.now.lengths c.args.axis (lawful c.args.view.now c.shape-shape.ensures.lawful).lengths
 
 pub product-requires-clause-few : goal.product-requires-clause-few
 product-requires-clause-few c =

@@ -3,7 +3,7 @@ use Rattle.std.specs.List.{list_all}
 use Rattle.arr_num.specs.Numbers.{in_type}
 use Rattle.arr_ops.specs.Memory.{write}
 use Rattle.arr_store.specs.Runs.{moved, run_places}
-use Rattle.arr_store.proofs.runs.scatter_by.Given as goal
+use Rattle.arr_store.proofs.runs.scatter_each.Given as goal
 
 abbrev pub invariant-loop-i : goal.invariant-loop-i
 invariant-loop-i g l =

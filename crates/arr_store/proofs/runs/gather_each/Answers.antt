@@ -5,7 +5,7 @@ use lib.IntN.{nat_abs}
 use mir.Val.{SFits}
 use Rattle.arr_store.specs.Runs.{moved, run_place}
 use Rattle.arr_store.proofs.Places.{abs_place, step_place, item_more, item_before, item_behind, item_is}
-use Rattle.arr_store.proofs.runs.gather_by.Goals as goal
+use Rattle.arr_store.proofs.runs.gather_each.Goals as goal
 
 pub loop-i-preserved : goal.loop-i-preserved
 loop-i-preserved g c =

@@ -9,7 +9,7 @@ use Rattle.arr_ops.specs.Memory.{write}
 use Rattle.arr_native.proofs.Entries.{entry_is}
 use Rattle.arr_store.specs.Runs.{moved, run_place, run_places}
 use Rattle.arr_store.proofs.Places.{abs_place, step_place, run_more, typed_more, left_long}
-use Rattle.arr_store.proofs.runs.scatter_by.Goals as goal
+use Rattle.arr_store.proofs.runs.scatter_each.Goals as goal
 
 pub loop-i-preserved : goal.loop-i-preserved
 loop-i-preserved g c =

@@ -1,6 +1,6 @@
 use Rattle.std.proofs.Common.{◌≡◌, ℕ, ◌+◌, ◌<◌, ◌≤◌, pos, length, get_or}
 use Rattle.arr_store.specs.Runs.{moved, run_place}
-use Rattle.arr_store.proofs.runs.gather_by.Given as goal
+use Rattle.arr_store.proofs.runs.gather_each.Given as goal
 
 abbrev pub invariant-loop-i : goal.invariant-loop-i
 invariant-loop-i g l =
