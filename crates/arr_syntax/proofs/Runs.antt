@@ -1,9 +1,9 @@
 -- One token of a run, and the last one.
 use Rattle.std.proofs.Common.{◌≡◌, ℕ, List, [], ◌∷◌, ◌++◌, Some, None, Ok, Err, refl, sym, ap, subst, Bool, true, false, cond, ◌∙◌}
-use Rattle.arr_syntax.specs.declared.refusal.Place.{Place}
-use Rattle.arr_syntax.specs.declared.token.Item.{Item}
-use Rattle.arr_syntax.specs.declared.token.Token.{Token}
-use Rattle.arr_syntax.specs.declared.token.Token.TheVariants as token
+use Rattle.arr_tree.specs.declared.refusal.Place.{Place}
+use Rattle.arr_tokens.specs.declared.token.Item.{Item}
+use Rattle.arr_tokens.specs.declared.token.Token.{Token}
+use Rattle.arr_tokens.specs.declared.token.Token.TheVariants as token
 use Rattle.arr_syntax.specs.declared.state.Mode.{Mode}
 use Rattle.arr_syntax.specs.declared.state.Mode.TheVariants as mode
 use Rattle.arr_syntax.specs.declared.state.Node.{Node}
@@ -19,16 +19,17 @@ use Rattle.arr_syntax.specs.declared.state.State.TheVariants as state
 use Rattle.arr_syntax.specs.declared.state.Move.{Move}
 use Rattle.arr_syntax.specs.declared.state.Move.TheVariants as move
 use Rattle.arr_syntax.specs.declared.state.Filled.TheVariants as filled
-use Rattle.arr_syntax.specs.declared.tree.Expr.{Expr}
-use Rattle.arr_syntax.specs.declared.tree.Statement.{Statement}
-use Rattle.arr_syntax.specs.declared.refusal.Kind.{Kind}
-use Rattle.arr_syntax.specs.declared.refusal.Kind.TheVariants.{Unexpected}
-use Rattle.arr_syntax.specs.declared.refusal.ParseFault.{ParseFault}
-use Rattle.arr_syntax.specs.declared.refusal.ParseFault.TheVariants.{Refused, NoMemory}
+use Rattle.arr_tree.specs.declared.tree.Expr.{Expr}
+use Rattle.arr_tree.specs.declared.tree.Statement.{Statement}
+use Rattle.arr_tree.specs.declared.refusal.Kind.{Kind}
+use Rattle.arr_tree.specs.declared.refusal.Kind.TheVariants.{Unexpected}
+use Rattle.arr_tree.specs.declared.refusal.ParseFault.{ParseFault}
+use Rattle.arr_tree.specs.declared.refusal.ParseFault.TheVariants.{Refused, NoMemory}
 use Rattle.arr_syntax.specs.Limits.{open_after, used_after}
 use Rattle.arr_syntax.specs.Machine as machine
 use Rattle.arr_syntax.specs.Machine.{step, give, fits, goes, leaves, fill, take, with_tree, level_of, tree_of, stated}
-use Rattle.arr_syntax.specs.Run.{run, own_fault, count_fault, open_fault, outcome, Reading, is_stuck, is_end, behind, Refuses}
+use Rattle.arr_tokens.specs.Tokens.{is_end, behind}
+use Rattle.arr_syntax.specs.Run.{run, own_fault, count_fault, open_fault, outcome, Reading, is_stuck, Refuses}
 use Rattle.arr_syntax.specs.Refused.{IfRefused, IsRefused}
 use Rattle.arr_syntax.proofs.Reading.{run_one, run_end, run_refuses}
 

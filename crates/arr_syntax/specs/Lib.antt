@@ -3,4 +3,3 @@ pub mod Machine
 pub mod Limits
 pub mod Run
 pub mod Refused
-pub mod Tokens

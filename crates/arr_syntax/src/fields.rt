@@ -1,12 +1,11 @@
 ghost use Rattle.std.specs.Prelude.{◌≡◌, IfOk, None};
-ghost use Rattle.arr_syntax.specs.Grammar.{cut};
+ghost use Rattle.arr_tree.specs.Trees.{cut};
 ghost use Rattle.arr_syntax.specs.Machine.{fresh, and_tree, with_tree, turns, whole, fill_behind, fill_number, fill_sign, fill};
 
 use crate::node::literal;
-use crate::refusal::Place;
 use crate::state::{Field, Fields, Filled, Trees};
-use crate::token::{Keyword, Sign, Token};
-use crate::tree::{Cut, Expr, Lengths, Steps, Type4};
+use arr_tokens::{Keyword, Sign, Token};
+use arr_tree::{Cut, Expr, Lengths, Place, Steps, Type4};
 use sqlite_items::{Boxed, Items};
 use std::alloc::{AllocError, Global};
 

@@ -1,12 +1,11 @@
 ghost use Rattle.std.specs.Prelude.{◌≡◌, IfOk};
-ghost use Rattle.arr_syntax.specs.Grammar.{literal_at};
+ghost use Rattle.arr_tree.specs.Trees.{literal_at};
 ghost use Rattle.arr_syntax.specs.Machine.{array_row, rule_row, row_of, level_of, wanted_in, code_of, form_of, form_of_one, view_form, tree_of, head_form, stated};
 
 use crate::parts::Parts;
-use crate::refusal::Place;
 use crate::state::{Field, Fields, Head, Mode, Node, Part, Rule, Trees};
-use crate::token::View;
-use crate::tree::{Code16, Expr, ExprForm, Form, Statement};
+use arr_tokens::View;
+use arr_tree::{Code16, Expr, ExprForm, Form, Place, Statement};
 use sqlite_items::Boxed;
 use std::alloc::{AllocError, Global};
 

@@ -1,15 +1,14 @@
 ghost use Rattle.std.specs.Prelude.{◌≡◌, [], ◌≤◌, length, Some, None, Ok, List, IfOk, IfErr, MatchResult};
-ghost use Rattle.arr_syntax.specs.declared.refusal.Refusal.{Refusal};
-ghost use Rattle.arr_syntax.specs.declared.tree.Statement.{Statement};
+ghost use Rattle.arr_tree.specs.declared.refusal.Refusal.{Refusal};
+ghost use Rattle.arr_tree.specs.declared.tree.Statement.{Statement};
 ghost use Rattle.arr_syntax.specs.Refused.{IsRefused, IsScript, IfRefused};
 ghost use Rattle.arr_syntax.specs.Run.{run, Refuses};
-ghost use Rattle.arr_syntax.specs.Tokens.{tokens};
+ghost use Rattle.arr_tokens.specs.Tokens.{tokens};
 
-use crate::reader::{Reader, is_end};
-use crate::refusal::{ParseFault, Place};
+use crate::reader::Reader;
 use crate::state::State;
-use crate::text::Text;
-use crate::tree::{Script, Statement};
+use arr_tokens::Text;
+use arr_tree::{ParseFault, Place, Script, Statement};
 use sqlite_items::Items;
 use std::alloc::Global;
 
@@ -27,7 +26,7 @@ fn statements(alloc: Global, bytes: &[u8]) -> Result<Items<Statement>, ParseFaul
         let Ok(item) = text.next(alloc) else {
             return Err(ParseFault::NoMemory);
         };
-        let is_last = is_end(&item.token);
+        let is_last = item.token.is_end();
         reader = reader.read(item)?;
         if is_last {
             return Ok(reader.statements);

@@ -1,13 +1,12 @@
 ghost use Rattle.std.specs.Prelude.{◌≡◌, ◌∷◌, ◌++◌, [], ℕ, ◌<◌, ◌≤◌, Some, None, List, Option, MatchResult, IfOk, true, false};
-ghost use Rattle.arr_syntax.specs.declared.token.Item.{Item};
+ghost use Rattle.arr_tokens.specs.declared.token.Item.{Item};
 ghost use Rattle.arr_syntax.specs.Limits.{open_after, used_after};
-ghost use Rattle.arr_syntax.specs.Run.{run, own_fault, count_fault, open_fault, is_end, is_stuck, Refuses};
+ghost use Rattle.arr_syntax.specs.Run.{run, own_fault, count_fault, open_fault, is_stuck, Refuses};
 
-use crate::refusal::{Kind, ParseFault, Refusal};
 use crate::state::{Move, State};
 use crate::step::step;
-use crate::token::{Item, Sign, Token};
-use crate::tree::Statement;
+use arr_tokens::{Item, Sign, Token};
+use arr_tree::{Kind, ParseFault, Refusal, Statement};
 use sqlite_items::{Boxed, Items};
 use std::alloc::Global;
 
@@ -16,15 +15,6 @@ const OPEN_LIMIT: u32 = 64;
 
 /// How many tokens a statement may have.
 const LENGTH_LIMIT: u32 = 1024;
-
-pub fn is_end(token: &Token) -> bool
-    ensures { result ≡ is_end token.now }
-{
-    match token {
-        Token::End => true,
-        _ => false,
-    }
-}
 
 /// What a token is refused for whatever stands before it.
 fn own_fault(token: &Token) -> Option<Kind>

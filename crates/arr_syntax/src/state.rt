@@ -1,8 +1,7 @@
 use crate::parts::Parts;
-use crate::refusal::Place;
 use crate::stack::Stack;
-use crate::token::View;
-use crate::tree::{Code16, Cut, Expr, Lengths, Statement, Steps, Type4, Word};
+use arr_tokens::View;
+use arr_tree::{Code16, Cut, Expr, Lengths, Place, Statement, Steps, Type4, Word};
 use sqlite_items::{Boxed, Items};
 
 /// Where a tree is wanted: as a value, or as a place whose elements are named.

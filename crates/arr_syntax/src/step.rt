@@ -1,14 +1,13 @@
 ghost use Rattle.std.specs.Prelude.{◌≡◌, ◌∷◌, [], IfOk, ◌<◌, ◌≤◌};
-ghost use Rattle.arr_syntax.specs.Grammar.{name_of, word_at};
+ghost use Rattle.arr_tree.specs.Trees.{name_of, word_at};
 ghost use Rattle.arr_syntax.specs.Machine.{behind, level, rule_at, ends, row, resume, opened, opens, onward, fill, begins, take, goes, give, target, starts, named, binds, deletes, ended, step, fresh, with_tree};
 
 use crate::node::{EQUALS, VALUE, literal, statement, tree};
 use crate::parts::Parts;
-use crate::refusal::Place;
 use crate::stack::Stack;
 use crate::state::{Field, Fields, Filled, Frame, Head, Mode, Move, Node, Part, Row, Rule, State};
-use crate::token::{Item, Keyword, Sign, Token};
-use crate::tree::{Code16, Expr, ExprForm, Form, Statement, Word};
+use arr_tokens::{Item, Keyword, Sign, Token};
+use arr_tree::{Code16, Expr, ExprForm, Form, Place, Statement, Word};
 use sqlite_items::Boxed;
 use std::alloc::{AllocError, Global};
 

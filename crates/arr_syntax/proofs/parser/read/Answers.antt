@@ -1,5 +1,5 @@
 use Rattle.std.proofs.lemmas.Result.{MatchResult-weaker}
-use Rattle.arr_syntax.specs.Tokens.{tokens}
+use Rattle.arr_tokens.specs.Tokens.{tokens}
 use Rattle.arr_syntax.proofs.Reading.{run_script}
 use Rattle.arr_syntax.proofs.Runs.{refused_text}
 use Rattle.arr_syntax.proofs.parser.read.Goals as goal

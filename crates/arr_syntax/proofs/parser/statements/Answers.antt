@@ -1,5 +1,5 @@
 use Rattle.std.proofs.Common.{◌∙◌, sym, ap, List}
-use Rattle.arr_syntax.specs.declared.token.Item.{Item}
+use Rattle.arr_tokens.specs.declared.token.Item.{Item}
 use Rattle.arr_syntax.specs.Run.{run}
 use Rattle.arr_syntax.proofs.Runs.{read_last}
 use Rattle.arr_syntax.proofs.parser.statements.Goals as goal

@@ -1,7 +1,7 @@
 use Rattle.std.proofs.Common.{◌≡◌, [], length}
 use Rattle.arr_syntax.specs.declared.state.State.TheVariants.{Start}
 use Rattle.arr_syntax.specs.Run.{run}
-use Rattle.arr_syntax.specs.Tokens.{items_from, tokens}
+use Rattle.arr_tokens.specs.Tokens.{items_from, tokens}
 use Rattle.arr_syntax.proofs.parser.statements.Given as goal
 
 abbrev pub invariant-tokens : goal.invariant-tokens
