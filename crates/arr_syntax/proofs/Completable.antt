@@ -26,8 +26,8 @@ use Rattle.arr_syntax.specs.declared.state.Frame.{Frame}
 use Rattle.arr_syntax.specs.declared.state.State.{State}
 use Rattle.arr_syntax.specs.declared.state.State.TheVariants as state
 use Rattle.arr_syntax.specs.declared.state.Move.{Move}
-use Rattle.arr_syntax.specs.declared.state.Filled.{Filled}
-use Rattle.arr_syntax.specs.declared.state.Filled.TheVariants as filled
+use Rattle.arr_syntax.specs.Filling.{Filling}
+use Rattle.arr_syntax.specs.Filling as filled
 use Rattle.arr_tree.specs.declared.tree.Code16.{Code16}
 use Rattle.arr_tree.specs.declared.tree.Word.{Word}
 use Rattle.arr_tree.specs.declared.tree.Expr.{Expr}
@@ -50,7 +50,7 @@ resume_formed n at (p ∷ ps) f s w h = (w, h)
 resume_formed (node.Tree n) at [] f s w h = (h.1, h.2)
 resume_formed (node.Statement x) at [] f s w h = tt
 
-onward_formed : (n : Node) (at : Place) (ps : List Part) (s : List Frame) (x : Filled) → Rowed n ps → Sits n (wanted s) (Formed s) → WellMoved (onward n at ps s x)
+onward_formed : (n : Node) (at : Place) (ps : List Part) (s : List Frame) (x : Filling) → Rowed n ps → Sits n (wanted s) (Formed s) → WellMoved (onward n at ps s x)
 onward_formed n at ps s filled.Stuck w h = tt
 onward_formed n at ps s (filled.Over f) w h = resume_formed n at ps f s w h
 onward_formed n at ps s (filled.Turns p f) w h = (w, h)

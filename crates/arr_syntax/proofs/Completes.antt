@@ -19,8 +19,8 @@ use Rattle.arr_syntax.specs.declared.state.State.{State}
 use Rattle.arr_syntax.specs.declared.state.State.TheVariants as state
 use Rattle.arr_syntax.specs.declared.state.Move.{Move}
 use Rattle.arr_syntax.specs.declared.state.Move.TheVariants as move
-use Rattle.arr_syntax.specs.declared.state.Filled.{Filled}
-use Rattle.arr_syntax.specs.declared.state.Filled.TheVariants as filled
+use Rattle.arr_syntax.specs.Filling.{Filling}
+use Rattle.arr_syntax.specs.Filling as filled
 use Rattle.arr_tree.specs.declared.tree.Type4.{Type4}
 use Rattle.arr_tree.specs.declared.tree.Cut.{Cut}
 use Rattle.arr_tree.specs.declared.tree.Word.{Word}
@@ -169,7 +169,7 @@ Next move.Stuck ts r = ⊥
 Next (move.On st) ts r = Completes st ts r
 Next (move.Emit s st) ts r = (ss : List Statement) × Completes st ts ss × (r ≡ s ∷ ss)
 
-abbrev pub NextField : Filled → List Item → (Fields → List Item → Type 0) → Type 0
+abbrev pub NextField : Filling → List Item → (Fields → List Item → Type 0) → Type 0
 NextField filled.Stuck ts K = ⊥
 NextField (filled.Over f) ts K = K f ts
 NextField (filled.Turns p f) ts K = FieldIn p f ts K

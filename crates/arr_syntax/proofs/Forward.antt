@@ -23,8 +23,8 @@ use Rattle.arr_syntax.specs.declared.state.Frame.{Frame}
 use Rattle.arr_syntax.specs.declared.state.State.{State}
 use Rattle.arr_syntax.specs.declared.state.State.TheVariants as state
 use Rattle.arr_syntax.specs.declared.state.Move.{Move}
-use Rattle.arr_syntax.specs.declared.state.Filled.{Filled}
-use Rattle.arr_syntax.specs.declared.state.Filled.TheVariants as filled
+use Rattle.arr_syntax.specs.Filling.{Filling}
+use Rattle.arr_syntax.specs.Filling as filled
 use Rattle.arr_tree.specs.declared.tree.Code16.{Code16}
 use Rattle.arr_tree.specs.declared.tree.Code16.TheVariants as code
 use Rattle.arr_tree.specs.declared.tree.Word.{Word}
@@ -137,7 +137,7 @@ resume_on n at (p ∷ ps) f s ts r k = k
 resume_on (node.Tree n) at [] f s ts r k = k
 resume_on (node.Statement h) at [] f s ts r k = k
 
-onward_on : (n : Node) (at : Place) (ps : List Part) (s : List Frame) (x : Filled) (ts : List Item) (r : List Statement) →
+onward_on : (n : Node) (at : Place) (ps : List Part) (s : List Frame) (x : Filling) (ts : List Item) (r : List Statement) →
     NextField x ts (λ g b. RowIn n at ps g s b r) → Next (onward n at ps s x) ts r
 onward_on n at ps s filled.Stuck ts r k = absurd k
 onward_on n at ps s (filled.Over f) ts r k = resume_on n at ps f s ts r k

@@ -1,4 +1,5 @@
 pub mod Grammar
+pub mod Filling
 pub mod Machine
 pub mod Limits
 pub mod Run

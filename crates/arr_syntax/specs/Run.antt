@@ -37,6 +37,14 @@ abbrev pub unless : {A : Type 0} → Option Kind → Result A Kind → Result A 
 unless (Some k) r = Err k
 unless None r = r
 
+-- the tokens of the statement behind a token, or what it is refused for whatever the grammar says
+abbrev pub counted : ℕ → Token → Result ℕ Kind
+counted used t = unless (own_fault t) (unless (count_fault used t) (Ok (used_after used t)))
+
+-- the brackets that are open behind a token
+abbrev pub opened : ℕ → Token → Result ℕ Kind
+opened open_now t = unless (open_fault open_now t) (Ok (open_after open_now t))
+
 abbrev pub expected : Move → Option Kind → Result Move Kind
 expected move.Stuck k = Err Unexpected
 expected (move.On st) k = unless k (Ok (move.On st))

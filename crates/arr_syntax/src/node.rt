@@ -9,6 +9,9 @@ use arr_tree::{Code16, Expr, ExprForm, Form, Place, Statement};
 use sqlite_items::Boxed;
 use std::alloc::{AllocError, Global};
 
+/// A box, or want of memory.
+type Made<T> = Result<Boxed<T>, AllocError>;
+
 const OPEN: Part = Part::Field(Field::Open);
 
 const CLOSE: Part = Part::Field(Field::Close);
@@ -155,12 +158,7 @@ impl Rule {
     }
 
     /// The expression whose row is read.
-    pub fn build(
-        self,
-        alloc: Global,
-        at: Place,
-        mut fields: Fields,
-    ) -> Result<Boxed<Expr>, AllocError>
+    pub fn build(self, alloc: Global, at: Place, mut fields: Fields) -> Made<Expr>
         ensures { IfOk result (λ t. t ≡ tree_of self at fields) }
     {
         match (self, std::mem::replace(&mut fields.trees, Trees::None)) {
@@ -225,12 +223,7 @@ impl Head {
     }
 
     /// The statement whose row is read.
-    pub fn build(
-        self,
-        alloc: Global,
-        at: Place,
-        fields: Fields,
-    ) -> Result<Boxed<Statement>, AllocError>
+    pub fn build(self, alloc: Global, at: Place, fields: Fields) -> Made<Statement>
         ensures { IfOk result (λ s. s ≡ stated self at fields) }
     {
         statement(alloc, self.form(at, fields.equals, fields.trees))
@@ -267,26 +260,21 @@ impl Node {
 }
 
 /// A tree in a box of its own.
-pub fn tree(alloc: Global, at: Place, form: ExprForm) -> Result<Boxed<Expr>, AllocError>
+pub fn tree(alloc: Global, at: Place, form: ExprForm) -> Made<Expr>
     ensures { IfOk result (λ t. t ≡ record { at = at; form = form }) }
 {
     Boxed::new(alloc, Expr { at, form })
 }
 
 /// A literal.
-pub fn literal(
-    alloc: Global,
-    at: Place,
-    negative: bool,
-    size: u64,
-) -> Result<Boxed<Expr>, AllocError>
+pub fn literal(alloc: Global, at: Place, negative: bool, size: u64) -> Made<Expr>
     ensures { IfOk result (λ t. t ≡ literal_at at negative size) }
 {
     tree(alloc, at, ExprForm::Literal { negative, size })
 }
 
 /// A statement in a box of its own.
-pub fn statement(alloc: Global, form: Form) -> Result<Boxed<Statement>, AllocError>
+pub fn statement(alloc: Global, form: Form) -> Made<Statement>
     ensures { IfOk result (λ s. s ≡ record { form = form }) }
 {
     Boxed::new(alloc, Statement { form })

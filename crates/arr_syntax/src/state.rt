@@ -168,11 +168,11 @@ pub enum Move {
 }
 
 /// What a token makes of a field.
-#[derive(Drop)]
+#[derive(Clone, Copy)]
 pub enum Filled {
     Stuck,
     /// The field is over.
-    Over(Fields),
+    Over,
     /// This is still to come of it.
-    Turns(Field, Fields),
+    Turns(Field),
 }
