@@ -14,11 +14,11 @@ use Rattle.arr_shape.specs.Shapes.{checked_shape}
 use Rattle.arr_shape.specs.Views.{reshape}
 use Rattle.arr_shape.proofs.Shapes.{made}
 use Rattle.arr_shape.proofs.Consecutive.{reshape_by}
-use Rattle.arr_syntax.specs.declared.refusal.Place.{Place}
-use Rattle.arr_syntax.specs.declared.tree.Code16.TheVariants as code
-use Rattle.arr_syntax.specs.declared.tree.Type4.TheVariants as type
-use Rattle.arr_syntax.specs.declared.tree.Expr.{Expr}
-use Rattle.arr_syntax.specs.Grammar.{word_at, range_at, reshape_at, lengths_at}
+use Rattle.arr_tree.specs.declared.refusal.Place.{Place}
+use Rattle.arr_tree.specs.declared.tree.Code16.TheVariants as code
+use Rattle.arr_tree.specs.declared.tree.Type4.TheVariants as type
+use Rattle.arr_tree.specs.declared.tree.Expr.{Expr}
+use Rattle.arr_tree.specs.Trees.{word_at, range_at, reshape_at, lengths_at}
 use Rattle.arr_elab.specs.State.{State, Names, stands_for, nothing_yet, and_then}
 use Rattle.arr_elab.specs.Expressions.{operation}
 use Rattle.arr_elab.specs.Outcome.{statement, statements, outcome}

@@ -7,12 +7,12 @@ use Rattle.arr_num.specs.declared.elem.Elem.TheVariants.{I64}
 use Rattle.arr_num.specs.Numbers.{in_type, upper}
 use Rattle.arr_view.specs.Strided.{Strided}
 use Rattle.arr_view.specs.Views.{positions, whole_view}
-use Rattle.arr_syntax.specs.declared.refusal.Place.{Place}
-use Rattle.arr_syntax.specs.declared.tree.Code16.TheVariants as code
-use Rattle.arr_syntax.specs.declared.tree.Cut.{Cut}
-use Rattle.arr_syntax.specs.declared.tree.Expr.{Expr}
-use Rattle.arr_syntax.specs.declared.tree.Statement.{Statement}
-use Rattle.arr_syntax.specs.Grammar.{word_at, cut, binary_at, fold_at}
+use Rattle.arr_tree.specs.declared.refusal.Place.{Place}
+use Rattle.arr_tree.specs.declared.tree.Code16.TheVariants as code
+use Rattle.arr_tree.specs.declared.tree.Cut.{Cut}
+use Rattle.arr_tree.specs.declared.tree.Expr.{Expr}
+use Rattle.arr_tree.specs.declared.tree.Statement.{Statement}
+use Rattle.arr_tree.specs.Trees.{word_at, cut, binary_at, fold_at}
 use Rattle.arr_elab.specs.State.{State, Names, stands_for, with_name, and_then}
 use Rattle.arr_elab.specs.Expressions.{bounds}
 use Rattle.arr_elab.specs.Outcome.{statement, statements}

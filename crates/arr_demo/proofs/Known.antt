@@ -6,7 +6,7 @@ use Rattle.std.specs.Str.{bytes_eq}
 use Rattle.std.proofs.lemmas.Bool.{and_from, and_parts, le-leb, leb-true, le-ltb}
 use Rattle.std.proofs.lemmas.Slice.Eq.{bytes_eq-Decides}
 use Rattle.arr_view.specs.Views.{positions, whole_view}
-use Rattle.arr_syntax.specs.declared.refusal.Place.{Place}
+use Rattle.arr_tree.specs.declared.refusal.Place.{Place}
 use Rattle.arr_elab.proofs.Named.{count_more, one_most}
 use Rattle.arr_elab.specs.State.{State, Names, stands_for, with_name, is_named, live, live_from, fresh, most_live, is_bound}
 

@@ -1,17 +1,17 @@
 -- An expression by its outermost form, for the forms that a script of the demo has.
 use Rattle.std.proofs.Common.{◌≡◌, sym, ◌∙◌, ap, ℕ, Bool, List}
-use Rattle.arr_syntax.specs.declared.refusal.Place.{Place}
-use Rattle.arr_syntax.specs.declared.tree.Type4.{Type4}
-use Rattle.arr_syntax.specs.declared.tree.Code16.{Code16}
-use Rattle.arr_syntax.specs.declared.tree.Cut.{Cut}
-use Rattle.arr_syntax.specs.declared.tree.Word.{Word}
-use Rattle.arr_syntax.specs.declared.tree.Lengths.{Lengths}
-use Rattle.arr_syntax.specs.declared.tree.Expr.{Expr, fold_out-Expr}
-use Rattle.arr_syntax.specs.declared.tree.ExprForm.{ExprForm, roll-ExprForm}
-use Rattle.arr_syntax.specs.declared.tree.ExprForm.TheFolds.{fold-ExprForm, fold-roll-ExprForm}
-use Rattle.arr_syntax.specs.declared.tree.ExprForm.TheOpen.{ExprForm-F}
-use Rattle.arr_syntax.specs.declared.tree.ExprForm.TheVariants as form
-use Rattle.arr_syntax.specs.Grammar.{name_of, literal_at, binary_at, fold_at, range_at, index_at, reshape_at}
+use Rattle.arr_tree.specs.declared.refusal.Place.{Place}
+use Rattle.arr_tree.specs.declared.tree.Type4.{Type4}
+use Rattle.arr_tree.specs.declared.tree.Code16.{Code16}
+use Rattle.arr_tree.specs.declared.tree.Cut.{Cut}
+use Rattle.arr_tree.specs.declared.tree.Word.{Word}
+use Rattle.arr_tree.specs.declared.tree.Lengths.{Lengths}
+use Rattle.arr_tree.specs.declared.tree.Expr.{Expr, fold_out-Expr}
+use Rattle.arr_tree.specs.declared.tree.ExprForm.{ExprForm, roll-ExprForm}
+use Rattle.arr_tree.specs.declared.tree.ExprForm.TheFolds.{fold-ExprForm, fold-roll-ExprForm}
+use Rattle.arr_tree.specs.declared.tree.ExprForm.TheOpen.{ExprForm-F}
+use Rattle.arr_tree.specs.declared.tree.ExprForm.TheVariants as form
+use Rattle.arr_tree.specs.Trees.{name_of, literal_at, binary_at, fold_at, range_at, index_at, reshape_at}
 use Rattle.arr_elab.specs.Expressions.{named, literal, binary, fold, range, index, reshaped}
 use Rattle.arr_elab.specs.Outcome.{by_form, prepared}
 

@@ -5,15 +5,15 @@ use Rattle.std.proofs.Math.Seq.{drop-append_seam}
 use Rattle.std.proofs.lemmas.Bool.{and_parts, and_from, not-true, leb-true, le-leb, lt-ltb, ne_eqb}
 use Rattle.std.proofs.lemmas.Fmt.{decimal_by_steps}
 use Rattle.std.proofs.lemmas.List.Sums.{take_while-cons}
-use Rattle.arr_syntax.specs.declared.refusal.Place.{Place}
-use Rattle.arr_syntax.specs.declared.token.Item.{Item}
-use Rattle.arr_syntax.specs.declared.token.Token.{Token}
-use Rattle.arr_syntax.specs.declared.token.Token.TheVariants as token
-use Rattle.arr_syntax.specs.declared.token.Sign.{Sign}
-use Rattle.arr_syntax.specs.declared.token.Sign.TheVariants as sign
-use Rattle.arr_syntax.specs.Tokens as syntax
-use Rattle.arr_syntax.specs.Tokens.{is_blank, is_digit, is_letter, is_word_byte, piece, items_from, put, place_behind, word_of, number_of, sign_of_two, sign_or_bad, sign_doubled, sign_with_equal}
-use Rattle.arr_syntax.proofs.Cutting.{cut_one, last_cut}
+use Rattle.arr_tree.specs.declared.refusal.Place.{Place}
+use Rattle.arr_tokens.specs.declared.token.Item.{Item}
+use Rattle.arr_tokens.specs.declared.token.Token.{Token}
+use Rattle.arr_tokens.specs.declared.token.Token.TheVariants as token
+use Rattle.arr_tokens.specs.declared.token.Sign.{Sign}
+use Rattle.arr_tokens.specs.declared.token.Sign.TheVariants as sign
+use Rattle.arr_tokens.specs.Tokens as syntax
+use Rattle.arr_tokens.specs.Tokens.{is_blank, is_digit, is_letter, is_word_byte, piece, items_from, put, place_behind, word_of, number_of, sign_of_two, sign_or_bad, sign_doubled, sign_with_equal}
+use Rattle.arr_tokens.proofs.Cutting.{cut_one, last_cut}
 
 -- ---- pieces
 

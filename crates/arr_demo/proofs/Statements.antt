@@ -8,12 +8,12 @@ use Rattle.arr_num.specs.declared.elem.Elem.TheVariants.{I64}
 use Rattle.arr_num.specs.Types.{same_elem}
 use Rattle.arr_view.specs.Strided.{Strided}
 use Rattle.arr_view.specs.Views.{same_lists}
-use Rattle.arr_syntax.specs.declared.refusal.Place.{Place}
-use Rattle.arr_syntax.specs.declared.tree.Cut.{Cut}
-use Rattle.arr_syntax.specs.declared.tree.Word.{Word}
-use Rattle.arr_syntax.specs.declared.tree.Expr.{Expr}
-use Rattle.arr_syntax.specs.declared.tree.Statement.{Statement}
-use Rattle.arr_syntax.specs.Grammar.{name_of, word_at, index_at, print_of, bind_of, assign_of}
+use Rattle.arr_tree.specs.declared.refusal.Place.{Place}
+use Rattle.arr_tree.specs.declared.tree.Cut.{Cut}
+use Rattle.arr_tree.specs.declared.tree.Word.{Word}
+use Rattle.arr_tree.specs.declared.tree.Expr.{Expr}
+use Rattle.arr_tree.specs.declared.tree.Statement.{Statement}
+use Rattle.arr_tree.specs.Trees.{name_of, word_at, index_at, print_of, bind_of, assign_of}
 use Rattle.arr_elab.specs.declared.step.Step.TheVariants.{Act, Name, Done}
 use Rattle.arr_elab.specs.State.{State, Names, stands_for, with_name, number_of, is_bound, most_names}
 use Rattle.arr_elab.specs.Expressions.{operation, taken, onto, bounds}

@@ -1,18 +1,18 @@
 -- The trees of a script's lines, and that its tokens are read as these.
 use Rattle.std.proofs.Common.{◌≡◌, ℕ, zero, suc, ◌-◌, ◌*◌, ◌/◌, ◌%◌, ◌≤◌, List, [], ◌∷◌, ◌++◌, refl, sym, ap, false, ◌∙◌, append_assoc, append-nil, Some, None, Ok, codes}
 use Rattle.std.specs.List.{flat_map}
-use Rattle.arr_syntax.specs.declared.refusal.Place.{Place}
-use Rattle.arr_syntax.specs.declared.token.Token.{Token}
-use Rattle.arr_syntax.specs.declared.token.Token.TheVariants as token
+use Rattle.arr_tree.specs.declared.refusal.Place.{Place}
+use Rattle.arr_tokens.specs.declared.token.Token.{Token}
+use Rattle.arr_tokens.specs.declared.token.Token.TheVariants as token
 use Rattle.arr_syntax.specs.declared.state.State.TheVariants as state
-use Rattle.arr_syntax.specs.declared.tree.Expr.{Expr}
-use Rattle.arr_syntax.specs.declared.tree.Statement.{Statement}
-use Rattle.arr_syntax.specs.declared.tree.Code16.TheVariants as code
-use Rattle.arr_syntax.specs.declared.tree.Type4.TheVariants.{I64}
-use Rattle.arr_syntax.specs.Grammar.{literal_at, word_at, name_of, binary_at, fold_at, range_at, lengths_at, index_at, reshape_at, print_of, bind_of, assign_of, cut}
+use Rattle.arr_tree.specs.declared.tree.Expr.{Expr}
+use Rattle.arr_tree.specs.declared.tree.Statement.{Statement}
+use Rattle.arr_tree.specs.declared.tree.Code16.TheVariants as code
+use Rattle.arr_tree.specs.declared.tree.Type4.TheVariants.{I64}
+use Rattle.arr_tree.specs.Trees.{literal_at, word_at, name_of, binary_at, fold_at, range_at, lengths_at, index_at, reshape_at, print_of, bind_of, assign_of, cut}
 use Rattle.arr_syntax.specs.Run.{run, Reading}
 use Rattle.arr_syntax.specs.Refused.{IsScript}
-use Rattle.arr_syntax.specs.Tokens.{tokens}
+use Rattle.arr_tokens.specs.Tokens.{tokens}
 use Rattle.arr_syntax.proofs.Reading.{run_script}
 use Rattle.arr_demo.specs.Script.{script_by}
 use Rattle.arr_demo.proofs.Pieces.{Piece, meant, joined, meanings, placed, cut_pieces}

@@ -13,11 +13,11 @@ use Rattle.arr_shape.specs.declared.fault.ShapeFault.TheVariants.{ShapeMismatch,
 use Rattle.arr_shape.specs.Shapes.{broadcast, all_match, greater, padded, checked_axis, joined as joined_shape}
 use Rattle.arr_shape.proofs.Shapes.{match_same, match_right}
 use Rattle.arr_shape.specs.Views.{spread, all_spread, spread_strides, padded_strides}
-use Rattle.arr_syntax.specs.declared.refusal.Place.{Place}
-use Rattle.arr_syntax.specs.declared.tree.Code16.{Code16}
-use Rattle.arr_syntax.specs.declared.tree.Cut.{Cut}
-use Rattle.arr_syntax.specs.declared.tree.Expr.{Expr}
-use Rattle.arr_syntax.specs.Grammar.{name_of, word_at, literal_at, binary_at, fold_at, index_at}
+use Rattle.arr_tree.specs.declared.refusal.Place.{Place}
+use Rattle.arr_tree.specs.declared.tree.Code16.{Code16}
+use Rattle.arr_tree.specs.declared.tree.Cut.{Cut}
+use Rattle.arr_tree.specs.declared.tree.Expr.{Expr}
+use Rattle.arr_tree.specs.Trees.{name_of, word_at, literal_at, binary_at, fold_at, index_at}
 use Rattle.arr_elab.specs.declared.step.Step.TheVariants.{Act}
 use Rattle.arr_elab.specs.Codes.{binary_code, fold_code, result_type}
 use Rattle.arr_elab.specs.State.{State, stands_for, ◌>>=◌}

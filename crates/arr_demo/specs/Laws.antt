@@ -1,8 +1,8 @@
 -- What is promised of the script of each number.
 use Rattle.std.specs.Prelude.{◌≡◌, ℕ, ◌≤◌, List, length, Ok}
-use Rattle.arr_syntax.specs.declared.tree.Statement.{Statement}
+use Rattle.arr_tree.specs.declared.tree.Statement.{Statement}
 use Rattle.arr_syntax.specs.Refused.{IsScript}
-use Rattle.arr_syntax.specs.Tokens.{tokens}
+use Rattle.arr_tokens.specs.Tokens.{tokens}
 use Rattle.arr_elab.specs.declared.step.Step.{Step}
 use Rattle.arr_elab.specs.Outcome.{outcome}
 use Rattle.arr_demo.specs.Script.{demo_script}

@@ -11,14 +11,14 @@ use Rattle.arr_num.specs.Types.{same_elem}
 use Rattle.arr_shape.specs.Shapes.{checked_shape, checked_axis, broadcast}
 use Rattle.arr_shape.specs.Views.{spread, transpose, reshape, strided}
 use Rattle.arr_shape.specs.Slices.{slice}
-use Rattle.arr_syntax.specs.declared.refusal.Place.{Place}
-use Rattle.arr_syntax.specs.declared.refusal.Kind.TheVariants.{TypeMismatch, LiteralRange, RankRange, EmptyArray, TooManyElements, UnknownName, TooMuchLive}
-use Rattle.arr_syntax.specs.declared.tree.Code16.{Code16}
-use Rattle.arr_syntax.specs.declared.tree.Type4.{Type4}
-use Rattle.arr_syntax.specs.declared.tree.Cut.{Cut}
-use Rattle.arr_syntax.specs.declared.tree.Word.{Word}
-use Rattle.arr_syntax.specs.declared.tree.Lengths.{Lengths}
-use Rattle.arr_syntax.specs.declared.tree.Steps.{Steps}
+use Rattle.arr_tree.specs.declared.refusal.Place.{Place}
+use Rattle.arr_tree.specs.declared.refusal.Kind.TheVariants.{TypeMismatch, LiteralRange, RankRange, EmptyArray, TooManyElements, UnknownName, TooMuchLive}
+use Rattle.arr_tree.specs.declared.tree.Code16.{Code16}
+use Rattle.arr_tree.specs.declared.tree.Type4.{Type4}
+use Rattle.arr_tree.specs.declared.tree.Cut.{Cut}
+use Rattle.arr_tree.specs.declared.tree.Word.{Word}
+use Rattle.arr_tree.specs.declared.tree.Lengths.{Lengths}
+use Rattle.arr_tree.specs.declared.tree.Steps.{Steps}
 use Rattle.arr_elab.specs.declared.value.Array.{Array}
 use Rattle.arr_elab.specs.declared.value.Value.{Value}
 use Rattle.arr_elab.specs.declared.value.Value.TheVariants as value
@@ -31,7 +31,7 @@ use Rattle.arr_elab.specs.declared.step.Step.TheVariants as step
 use Rattle.arr_elab.specs.State.{State, Reading, Checked, and_then, ◌>>=◌, pure, stands_for, fresh, live, most_live}
 use Rattle.arr_elab.specs.Steps.{deeds}
 use Rattle.arr_elab.specs.Codes.{elem_of, binary_code}
-use Rattle.arr_syntax.specs.Grammar.{signed}
+use Rattle.arr_tree.specs.Trees.{signed}
 use Rattle.arr_elab.specs.Expressions.{onto, pending, seen, settled, array_of, array, written, found, lookup, named, literal, unary, cast, power, joined, binary, fold, range, filled, full, bounds, index, broadcasted, transposed, reshaped, strided_anew}
 use Rattle.arr_elab.proofs.Sound.{needed, by_rule}
 

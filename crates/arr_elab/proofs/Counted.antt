@@ -1,4 +1,4 @@
--- An accepted script records no more operations than it has tokens.
+-- An accepted script records no more operations than its trees weigh.
 use Rattle.std.proofs.Common.{◌≡◌, ℕ, ◌+◌, ◌≤◌, List, [], ◌∷◌, ◌++◌, Bool, true, false, cond, not, ◌||◌, length, refl, ap, sym, subst, arith}
 use Rattle.std.specs.Prelude.{nat_lt, Option, Some, None, is_some, Ok, Err}
 use Rattle.arr_num.specs.declared.code.Code.TheVariants as code
@@ -8,18 +8,16 @@ use Rattle.arr_ops.specs.declared.op.Op.{Op}
 use Rattle.arr_ops.specs.declared.op.Operand.TheVariants as operand
 use Rattle.arr_num.specs.Types.{same_elem}
 use Rattle.arr_shape.specs.Views.{spread}
-use Rattle.arr_syntax.specs.declared.refusal.Place.{Place}
-use Rattle.arr_syntax.specs.declared.refusal.Kind.TheVariants.{TypeMismatch, LiteralRange, ShapeMismatch, UnknownName, OutputRepeats, TooManyNames}
-use Rattle.arr_syntax.specs.declared.token.Item.{Item}
-use Rattle.arr_syntax.specs.declared.tree.Word.{Word}
-use Rattle.arr_syntax.specs.declared.tree.Expr.{Expr}
-use Rattle.arr_syntax.specs.declared.tree.ExprForm.{ExprForm, roll-ExprForm}
-use Rattle.arr_syntax.specs.declared.tree.ExprForm.TheOpen.{ExprForm-F}
-use Rattle.arr_syntax.specs.declared.tree.ExprForm.TheFolds.{map-ExprForm, fold-ExprForm, fold-roll-ExprForm, fold-roll-Expr, ind-Expr}
-use Rattle.arr_syntax.specs.declared.tree.Form.{Form}
-use Rattle.arr_syntax.specs.declared.tree.Form.TheVariants as form
-use Rattle.arr_syntax.specs.declared.tree.Statement.{Statement}
-use Rattle.arr_syntax.specs.Grammar.{Script}
+use Rattle.arr_tree.specs.declared.refusal.Place.{Place}
+use Rattle.arr_tree.specs.declared.refusal.Kind.TheVariants.{TypeMismatch, LiteralRange, ShapeMismatch, UnknownName, OutputRepeats, TooManyNames}
+use Rattle.arr_tree.specs.declared.tree.Word.{Word}
+use Rattle.arr_tree.specs.declared.tree.Expr.{Expr}
+use Rattle.arr_tree.specs.declared.tree.ExprForm.{ExprForm, roll-ExprForm}
+use Rattle.arr_tree.specs.declared.tree.ExprForm.TheOpen.{ExprForm-F}
+use Rattle.arr_tree.specs.declared.tree.ExprForm.TheFolds.{map-ExprForm, fold-ExprForm, fold-roll-ExprForm, fold-roll-Expr, ind-Expr}
+use Rattle.arr_tree.specs.declared.tree.Form.{Form}
+use Rattle.arr_tree.specs.declared.tree.Form.TheVariants as form
+use Rattle.arr_tree.specs.declared.tree.Statement.{Statement}
 use Rattle.arr_elab.specs.declared.value.Array.{Array}
 use Rattle.arr_elab.specs.declared.value.Value.TheVariants as value
 use Rattle.arr_elab.specs.declared.value.Prepared.{Prepared}
@@ -31,7 +29,8 @@ use Rattle.arr_elab.specs.Steps.{deeds}
 use Rattle.arr_elab.specs.Expressions.{operation, onto, settled, array_of, array, written, taken, found}
 use Rattle.arr_elab.specs.Outcome.{by_form, prepared, assigned, stored, bound, bind, forget, gather_arrays, scatter_arrays, effect, begin, statement, statements, outcome}
 use Rattle.arr_elab.proofs.Sound.{needed, by_rule}
-use Rattle.arr_elab.proofs.Weighed.{weight_of, weight_form, weight, form_weight, script_weight, script_short}
+use Rattle.arr_tree.specs.Weights.{weight_of, weight, form_weight, script_weight}
+use Rattle.arr_tree.proofs.Weighed.{weight_form}
 use Rattle.arr_elab.proofs.Adding.{count, waits, nothing, Adds, in_turn, at_once, deeds_join, fresh_adds, written_adds, value_adds, array_of_adds, array_adds, named_adds, literal_adds, unary_adds, cast_adds, power_adds, fold_adds, binary_adds, range_adds, full_adds, index_adds, broadcasted_adds, transposed_adds, reshaped_adds, strided_adds}
 
 -- ---- expressions
@@ -243,8 +242,5 @@ by_state (Ok r) steps n e h =
     let is : r.1.steps ≡ steps = (let f : steps_of r ≡ Ok steps = e in cc) in
     subst (λ xs. deeds xs ≤ n) is (omega arith)
 
-pub few_deeds : (items : List Item) (ss : List Statement) (steps : List Step) → Script items ss → outcome ss ≡ Ok steps → deeds steps ≤ length items
-few_deeds items ss steps script e =
-    let few = by_state (statements ss nothing_yet) steps (script_weight ss) e (λ r f. statements_add ss nothing_yet r f) in
-    let short = script_short items ss script in
-    omega arith
+pub few_deeds : (ss : List Statement) (steps : List Step) → outcome ss ≡ Ok steps → deeds steps ≤ script_weight ss
+few_deeds ss steps e = by_state (statements ss nothing_yet) steps (script_weight ss) e (λ r f. statements_add ss nothing_yet r f)

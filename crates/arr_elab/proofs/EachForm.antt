@@ -14,21 +14,21 @@ use Rattle.arr_shape.specs.declared.fault.ShapeFault.TheVariants.{AxisRange}
 use Rattle.arr_shape.specs.Shapes.{is_shape, checked_shape, checked_axis, broadcast}
 use Rattle.arr_shape.specs.Views.{spread, transpose, reshape, strided}
 use Rattle.arr_shape.specs.Slices.{slice}
-use Rattle.arr_syntax.specs.declared.refusal.Place.{Place}
-use Rattle.arr_syntax.specs.declared.refusal.Kind.TheVariants.{TypeMismatch, LiteralRange, RankRange, EmptyArray, TooManyElements}
-use Rattle.arr_syntax.specs.declared.tree.Code16.{Code16}
-use Rattle.arr_syntax.specs.declared.tree.Type4.{Type4}
-use Rattle.arr_syntax.specs.declared.tree.Cut.{Cut}
-use Rattle.arr_syntax.specs.declared.tree.Word.{Word}
-use Rattle.arr_syntax.specs.declared.tree.Lengths.{Lengths}
-use Rattle.arr_syntax.specs.declared.tree.Steps.{Steps}
+use Rattle.arr_tree.specs.declared.refusal.Place.{Place}
+use Rattle.arr_tree.specs.declared.refusal.Kind.TheVariants.{TypeMismatch, LiteralRange, RankRange, EmptyArray, TooManyElements}
+use Rattle.arr_tree.specs.declared.tree.Code16.{Code16}
+use Rattle.arr_tree.specs.declared.tree.Type4.{Type4}
+use Rattle.arr_tree.specs.declared.tree.Cut.{Cut}
+use Rattle.arr_tree.specs.declared.tree.Word.{Word}
+use Rattle.arr_tree.specs.declared.tree.Lengths.{Lengths}
+use Rattle.arr_tree.specs.declared.tree.Steps.{Steps}
 use Rattle.arr_elab.specs.declared.value.Value.{Value}
 use Rattle.arr_elab.specs.declared.value.Value.TheVariants as value
 use Rattle.arr_elab.specs.declared.value.Prepared.{Prepared}
 use Rattle.arr_elab.specs.declared.value.Prepared.TheVariants.{Ready, Open}
 use Rattle.arr_elab.specs.State.{State, Reading, ◌>>=◌}
 use Rattle.arr_elab.specs.Codes.{elem_of, binary_code}
-use Rattle.arr_syntax.specs.Grammar.{signed}
+use Rattle.arr_tree.specs.Trees.{signed}
 use Rattle.arr_elab.specs.Expressions.{pending, seen, settled, array, lookup, named, literal, unary, cast, power, joined, binary, fold, range, filled, full, bounds, index, broadcasted, transposed, reshaped, strided_anew}
 use Rattle.arr_elab.specs.Recording.{Scene, length_of}
 use Rattle.arr_elab.proofs.Derived.{not_true, Lies, is_below, ok_if, derived_spread, derived_turned, derived_reshaped, lies_strided}

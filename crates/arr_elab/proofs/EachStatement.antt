@@ -17,13 +17,13 @@ use Rattle.arr_ops.specs.Gathers.{is_gather, is_scatter}
 use Rattle.arr_num.specs.Types.{same_elem, same_elem_is, same_elem_refl}
 use Rattle.arr_shape.specs.Views.{spread}
 use Rattle.arr_shape.proofs.Consecutive.{lists_same}
-use Rattle.arr_syntax.specs.declared.refusal.Place.{Place}
-use Rattle.arr_syntax.specs.declared.refusal.Kind.{Kind}
-use Rattle.arr_syntax.specs.declared.refusal.Kind.TheVariants.{TypeMismatch, LiteralRange, ShapeMismatch, OutputRepeats, TooManyNames, TooMuchLive, UnknownName}
-use Rattle.arr_syntax.specs.declared.tree.Word.{Word}
-use Rattle.arr_syntax.specs.declared.tree.Form.{Form}
-use Rattle.arr_syntax.specs.declared.tree.Form.TheVariants as form
-use Rattle.arr_syntax.specs.declared.tree.Statement.{Statement}
+use Rattle.arr_tree.specs.declared.refusal.Place.{Place}
+use Rattle.arr_tree.specs.declared.refusal.Kind.{Kind}
+use Rattle.arr_tree.specs.declared.refusal.Kind.TheVariants.{TypeMismatch, LiteralRange, ShapeMismatch, OutputRepeats, TooManyNames, TooMuchLive, UnknownName}
+use Rattle.arr_tree.specs.declared.tree.Word.{Word}
+use Rattle.arr_tree.specs.declared.tree.Form.{Form}
+use Rattle.arr_tree.specs.declared.tree.Form.TheVariants as form
+use Rattle.arr_tree.specs.declared.tree.Statement.{Statement}
 use Rattle.arr_elab.specs.declared.value.Array.{Array}
 use Rattle.arr_elab.specs.declared.value.Value.TheVariants as value
 use Rattle.arr_elab.specs.declared.value.Prepared.{Prepared}

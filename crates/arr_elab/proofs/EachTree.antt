@@ -1,10 +1,10 @@
 -- Every expression keeps a scene.
 use Rattle.std.proofs.Common.{sym, subst}
-use Rattle.arr_syntax.specs.declared.refusal.Place.{Place}
-use Rattle.arr_syntax.specs.declared.tree.Expr.{Expr}
-use Rattle.arr_syntax.specs.declared.tree.ExprForm.{ExprForm}
-use Rattle.arr_syntax.specs.declared.tree.ExprForm.TheOpen.{ExprForm-F}
-use Rattle.arr_syntax.specs.declared.tree.ExprForm.TheFolds.{map-ExprForm, fold-ExprForm, fold-roll-ExprForm, fold-roll-Expr, ind-Expr}
+use Rattle.arr_tree.specs.declared.refusal.Place.{Place}
+use Rattle.arr_tree.specs.declared.tree.Expr.{Expr}
+use Rattle.arr_tree.specs.declared.tree.ExprForm.{ExprForm}
+use Rattle.arr_tree.specs.declared.tree.ExprForm.TheOpen.{ExprForm-F}
+use Rattle.arr_tree.specs.declared.tree.ExprForm.TheFolds.{map-ExprForm, fold-ExprForm, fold-roll-ExprForm, fold-roll-Expr, ind-Expr}
 use Rattle.arr_elab.specs.declared.value.Prepared.{Prepared}
 use Rattle.arr_elab.specs.State.{Reading}
 use Rattle.arr_elab.specs.Outcome.{by_form, prepared}

@@ -7,7 +7,7 @@ use Rattle.arr_ops.specs.declared.op.Operand.TheVariants as operand
 use Rattle.arr_view.specs.Strided.{Strided}
 use Rattle.arr_shape.specs.Shapes.{broadcast}
 use Rattle.arr_shape.specs.Views.{spread}
-use Rattle.arr_syntax.specs.declared.refusal.Place.{Place}
+use Rattle.arr_tree.specs.declared.refusal.Place.{Place}
 use Rattle.arr_elab.specs.declared.value.Array.{Array}
 use Rattle.arr_elab.specs.declared.value.Value.TheVariants as value
 use Rattle.arr_elab.specs.declared.value.Prepared.{Prepared}

@@ -5,9 +5,9 @@ use Rattle.arr_view.specs.Strided.{Strided}
 use Rattle.std.specs.List.{list_all}
 use Rattle.std.proofs.lemmas.Bool.{and_parts, and_from, le-leb}
 use Rattle.arr_view.specs.Views.{most_elements, positions, whole_view}
-use Rattle.arr_syntax.specs.declared.refusal.Place.{Place}
-use Rattle.arr_syntax.specs.declared.refusal.Kind.TheVariants as kind
-use Rattle.arr_syntax.specs.declared.refusal.Refusal.{Refusal}
+use Rattle.arr_tree.specs.declared.refusal.Place.{Place}
+use Rattle.arr_tree.specs.declared.refusal.Kind.TheVariants as kind
+use Rattle.arr_tree.specs.declared.refusal.Refusal.{Refusal}
 use Rattle.arr_elab.specs.declared.fault.ElabFault.{ElabFault}
 use Rattle.arr_elab.specs.declared.fault.ElabFault.TheVariants.{Refused}
 use Rattle.arr_elab.specs.declared.step.Step.{Step}

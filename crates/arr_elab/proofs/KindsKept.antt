@@ -15,8 +15,8 @@ use Rattle.arr_ops.specs.declared.op.Operand.TheVariants as operand
 use Rattle.arr_ops.specs.Ops.{view_of}
 use Rattle.arr_ops.specs.Formed.{same_shape, kind_kept, numbers_of, with_slot, dropped_axis}
 use Rattle.arr_num.specs.Types.{same_elem, same_elem_refl}
-use Rattle.arr_syntax.specs.declared.tree.Code16.{Code16}
-use Rattle.arr_syntax.specs.declared.tree.Code16.TheVariants as sign
+use Rattle.arr_tree.specs.declared.tree.Code16.{Code16}
+use Rattle.arr_tree.specs.declared.tree.Code16.TheVariants as sign
 use Rattle.arr_shape.specs.Shapes.{dropped_axis as without_axis}
 use Rattle.arr_elab.specs.Codes.{binary_code, unary_code, fold_code, result_type}
 use Rattle.arr_elab.specs.Expressions.{operation, onto, taken, fold_shape}

@@ -1,11 +1,11 @@
 -- An expression by its outermost form.
 use Rattle.std.proofs.Common.{◌≡◌, sym, ◌∙◌, ap, ℕ}
-use Rattle.arr_syntax.specs.declared.refusal.Place.{Place}
-use Rattle.arr_syntax.specs.declared.tree.Type4.{Type4}
-use Rattle.arr_syntax.specs.declared.tree.Expr.{Expr, fold_out-Expr}
-use Rattle.arr_syntax.specs.declared.tree.ExprForm.TheFolds.{fold-ExprForm, fold-roll-ExprForm}
-use Rattle.arr_syntax.specs.declared.tree.ExprForm.TheOpen.{ExprForm-F}
-use Rattle.arr_syntax.specs.declared.tree.ExprForm.TheVariants as form
+use Rattle.arr_tree.specs.declared.refusal.Place.{Place}
+use Rattle.arr_tree.specs.declared.tree.Type4.{Type4}
+use Rattle.arr_tree.specs.declared.tree.Expr.{Expr, fold_out-Expr}
+use Rattle.arr_tree.specs.declared.tree.ExprForm.TheFolds.{fold-ExprForm, fold-roll-ExprForm}
+use Rattle.arr_tree.specs.declared.tree.ExprForm.TheOpen.{ExprForm-F}
+use Rattle.arr_tree.specs.declared.tree.ExprForm.TheVariants as form
 use Rattle.arr_elab.specs.declared.value.Prepared.{Prepared}
 use Rattle.arr_elab.specs.State.{Reading}
 use Rattle.arr_elab.specs.Expressions.{range}

@@ -1,7 +1,7 @@
 -- The steps of an accepted script keep to what a recording is.
 use Rattle.std.proofs.Common.{◌≡◌, List, true, refl, ap, sym, ◌∙◌}
 use Rattle.std.specs.Prelude.{is_some, Ok, Err}
-use Rattle.arr_syntax.specs.declared.tree.Statement.{Statement}
+use Rattle.arr_tree.specs.declared.tree.Statement.{Statement}
 use Rattle.arr_elab.specs.declared.step.Step.{Step}
 use Rattle.arr_elab.specs.State.{State, Checked, and_then, nothing_yet}
 use Rattle.arr_elab.specs.Outcome.{statements, outcome}

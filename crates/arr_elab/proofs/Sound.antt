@@ -6,10 +6,10 @@ use Rattle.arr_num.specs.declared.elem.Elem.{Elem}
 use Rattle.arr_view.specs.Strided.{Strided}
 use Rattle.arr_view.specs.Views.{positions, whole_view}
 use Rattle.arr_shape.specs.declared.fault.ShapeFault.{ShapeFault}
-use Rattle.arr_syntax.specs.declared.refusal.Place.{Place}
-use Rattle.arr_syntax.specs.declared.refusal.Kind.{Kind}
-use Rattle.arr_syntax.specs.declared.refusal.Kind.TheVariants.{TypeMismatch, UnknownName, TooMuchLive}
-use Rattle.arr_syntax.specs.declared.tree.Word.{Word}
+use Rattle.arr_tree.specs.declared.refusal.Place.{Place}
+use Rattle.arr_tree.specs.declared.refusal.Kind.{Kind}
+use Rattle.arr_tree.specs.declared.refusal.Kind.TheVariants.{TypeMismatch, UnknownName, TooMuchLive}
+use Rattle.arr_tree.specs.declared.tree.Word.{Word}
 use Rattle.arr_elab.specs.declared.value.Array.{Array}
 use Rattle.arr_elab.specs.declared.value.Value.{Value}
 use Rattle.arr_elab.specs.declared.value.Value.TheVariants as value

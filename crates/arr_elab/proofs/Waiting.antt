@@ -15,7 +15,7 @@ use Rattle.arr_ops.specs.declared.op.Operand.{Operand}
 use Rattle.arr_ops.specs.declared.op.Operand.TheVariants as operand
 use Rattle.arr_ops.specs.Ops.{inputs, view_of}
 use Rattle.arr_ops.specs.Formed.{kind_kept, with_slot, well_formed, makes_whole, numbers_of, same_shape}
-use Rattle.arr_syntax.specs.declared.tree.Code16.{Code16}
+use Rattle.arr_tree.specs.declared.tree.Code16.{Code16}
 use Rattle.arr_shape.specs.Shapes.{is_shape, dropped_axis}
 use Rattle.arr_elab.specs.Codes.{binary_code, unary_code, fold_code, result_type}
 use Rattle.arr_elab.specs.Expressions.{operation, onto, taken, fold_shape}

@@ -1,6 +1,6 @@
 -- What a function ensures: what its definition gives, unless memory fails.
 use Rattle.std.specs.Prelude.{◌≡◌, Result, Ok, Err}
-use Rattle.arr_syntax.specs.declared.refusal.Refusal.{Refusal}
+use Rattle.arr_tree.specs.declared.refusal.Refusal.{Refusal}
 use Rattle.arr_elab.specs.declared.fault.ElabFault.{ElabFault}
 use Rattle.arr_elab.specs.declared.fault.ElabFault.TheVariants.{Refused}
 use Rattle.arr_elab.specs.State.{State, Checked}

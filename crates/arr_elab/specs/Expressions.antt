@@ -17,14 +17,14 @@ use Rattle.arr_shape.specs.declared.bounds.Slice.{Slice}
 use Rattle.arr_shape.specs.Shapes.{checked_shape, checked_axis, dropped_axis, broadcast}
 use Rattle.arr_shape.specs.Views.{spread, transpose, reshape, strided}
 use Rattle.arr_shape.specs.Slices.{slice}
-use Rattle.arr_syntax.specs.declared.refusal.Place.{Place}
-use Rattle.arr_syntax.specs.declared.refusal.Kind.TheVariants.{UnknownName, TypeMismatch, LiteralRange, RankRange, EmptyArray, TooManyElements}
-use Rattle.arr_syntax.specs.declared.tree.Code16.{Code16}
-use Rattle.arr_syntax.specs.declared.tree.Type4.{Type4}
-use Rattle.arr_syntax.specs.declared.tree.Cut.{Cut}
-use Rattle.arr_syntax.specs.declared.tree.Word.{Word}
-use Rattle.arr_syntax.specs.declared.tree.Lengths.{Lengths}
-use Rattle.arr_syntax.specs.declared.tree.Steps.{Steps}
+use Rattle.arr_tree.specs.declared.refusal.Place.{Place}
+use Rattle.arr_tree.specs.declared.refusal.Kind.TheVariants.{UnknownName, TypeMismatch, LiteralRange, RankRange, EmptyArray, TooManyElements}
+use Rattle.arr_tree.specs.declared.tree.Code16.{Code16}
+use Rattle.arr_tree.specs.declared.tree.Type4.{Type4}
+use Rattle.arr_tree.specs.declared.tree.Cut.{Cut}
+use Rattle.arr_tree.specs.declared.tree.Word.{Word}
+use Rattle.arr_tree.specs.declared.tree.Lengths.{Lengths}
+use Rattle.arr_tree.specs.declared.tree.Steps.{Steps}
 use Rattle.arr_elab.specs.declared.value.Array.{Array}
 use Rattle.arr_elab.specs.declared.value.Value.{Value}
 use Rattle.arr_elab.specs.declared.value.Value.TheVariants as value
@@ -33,7 +33,7 @@ use Rattle.arr_elab.specs.declared.value.Prepared.{Prepared}
 use Rattle.arr_elab.specs.declared.value.Prepared.TheVariants.{Ready, Open}
 use Rattle.arr_elab.specs.State.{Reading, ◌>>=◌, ◌>>◌, pure, refuse, require, ruled, known, act, fresh, stands_for}
 use Rattle.arr_elab.specs.Codes.{elem_of, binary_code, unary_code, fold_code, result_type}
-use Rattle.arr_syntax.specs.Grammar.{signed}
+use Rattle.arr_tree.specs.Trees.{signed}
 
 -- ---- operations
 

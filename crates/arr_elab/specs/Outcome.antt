@@ -8,14 +8,14 @@ use Rattle.arr_view.specs.Strided.{Strided}
 use Rattle.arr_view.specs.Views.{repeats, same_lists}
 use Rattle.arr_ops.specs.declared.op.Operand.TheVariants as operand
 use Rattle.arr_shape.specs.Views.{spread}
-use Rattle.arr_syntax.specs.declared.refusal.Place.{Place}
-use Rattle.arr_syntax.specs.declared.refusal.Kind.TheVariants.{TypeMismatch, LiteralRange, ShapeMismatch, OutputRepeats, TooManyNames}
-use Rattle.arr_syntax.specs.declared.tree.Expr.{Expr, fold-Expr}
-use Rattle.arr_syntax.specs.declared.tree.ExprForm.TheOpen.{ExprForm-F}
-use Rattle.arr_syntax.specs.declared.tree.Word.{Word}
-use Rattle.arr_syntax.specs.declared.tree.Form.{Form}
-use Rattle.arr_syntax.specs.declared.tree.Form.TheVariants as form
-use Rattle.arr_syntax.specs.declared.tree.Statement.{Statement}
+use Rattle.arr_tree.specs.declared.refusal.Place.{Place}
+use Rattle.arr_tree.specs.declared.refusal.Kind.TheVariants.{TypeMismatch, LiteralRange, ShapeMismatch, OutputRepeats, TooManyNames}
+use Rattle.arr_tree.specs.declared.tree.Expr.{Expr, fold-Expr}
+use Rattle.arr_tree.specs.declared.tree.ExprForm.TheOpen.{ExprForm-F}
+use Rattle.arr_tree.specs.declared.tree.Word.{Word}
+use Rattle.arr_tree.specs.declared.tree.Form.{Form}
+use Rattle.arr_tree.specs.declared.tree.Form.TheVariants as form
+use Rattle.arr_tree.specs.declared.tree.Statement.{Statement}
 use Rattle.arr_elab.specs.declared.value.Array.{Array}
 use Rattle.arr_elab.specs.declared.value.Value.TheVariants as value
 use Rattle.arr_elab.specs.declared.value.Prepared.{Prepared}

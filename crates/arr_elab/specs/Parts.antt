@@ -2,8 +2,8 @@
 use Rattle.std.specs.Prelude.{false, not}
 use Rattle.arr_num.specs.Types.{same_elem}
 use Rattle.arr_view.specs.Views.{repeats}
-use Rattle.arr_syntax.specs.declared.refusal.Place.{Place}
-use Rattle.arr_syntax.specs.declared.refusal.Kind.TheVariants.{TypeMismatch, OutputRepeats}
+use Rattle.arr_tree.specs.declared.refusal.Place.{Place}
+use Rattle.arr_tree.specs.declared.refusal.Kind.TheVariants.{TypeMismatch, OutputRepeats}
 use Rattle.arr_elab.specs.declared.value.Array.{Array}
 use Rattle.arr_elab.specs.declared.value.Value.{Value}
 use Rattle.arr_elab.specs.declared.value.Pending.{Pending}

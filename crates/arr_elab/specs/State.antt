@@ -6,10 +6,10 @@ use Rattle.arr_view.specs.Strided.{Strided}
 use Rattle.arr_ops.specs.declared.op.Op.{Op}
 use Rattle.arr_shape.specs.declared.fault.ShapeFault.{ShapeFault}
 use Rattle.arr_shape.specs.declared.fault.ShapeFault.TheVariants as fault
-use Rattle.arr_syntax.specs.declared.refusal.Place.{Place}
-use Rattle.arr_syntax.specs.declared.refusal.Kind.{Kind}
-use Rattle.arr_syntax.specs.declared.refusal.Kind.TheVariants as kind
-use Rattle.arr_syntax.specs.declared.refusal.Refusal.{Refusal}
+use Rattle.arr_tree.specs.declared.refusal.Place.{Place}
+use Rattle.arr_tree.specs.declared.refusal.Kind.{Kind}
+use Rattle.arr_tree.specs.declared.refusal.Kind.TheVariants as kind
+use Rattle.arr_tree.specs.declared.refusal.Refusal.{Refusal}
 use Rattle.arr_elab.specs.declared.value.Array.{Array}
 use Rattle.arr_elab.specs.declared.step.Step.{Step}
 use Rattle.arr_elab.specs.declared.step.Step.TheVariants.{Act}

@@ -2,10 +2,10 @@
 
 ghost use Rattle.std.specs.Prelude.{◌≡◌};
 ghost use Rattle.arr_elab.specs.Codes as spec;
-ghost use Rattle.arr_syntax.specs.Grammar.{signed};
+ghost use Rattle.arr_tree.specs.Trees.{signed};
 
 use arr_num::{Code, Elem};
-use arr_syntax::{Code16, Type4};
+use arr_tree::{Code16, Type4};
 
 pub(crate) fn elem_of(to: Type4) -> Elem
     ensures { result ≡ spec.elem_of to }

@@ -1,4 +1,4 @@
-use arr_syntax::{Kind, Place, Refusal};
+use arr_tree::{Kind, Place, Refusal};
 use std::alloc::AllocError;
 
 /// Why `elaborate` gives no steps: the script is refused, or memory ran out.

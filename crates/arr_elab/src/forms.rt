@@ -5,7 +5,7 @@ ghost use Rattle.arr_elab.specs.Contract.{Reads};
 ghost use Rattle.arr_elab.specs.Parts.{valued};
 ghost use Rattle.arr_elab.specs.State.{State};
 ghost use Rattle.arr_elab.specs.Expressions as spec;
-ghost use Rattle.arr_syntax.specs.Grammar.{signed};
+ghost use Rattle.arr_tree.specs.Trees.{signed};
 ghost use Rattle.arr_elab.specs.declared.value.Prepared.TheVariants.{Ready};
 ghost use Rattle.arr_elab.specs.declared.value.Value.TheVariants as literal;
 ghost use Rattle.arr_elab.specs.Outcome.{prepared};
@@ -20,7 +20,7 @@ use crate::value::{Array, Prepared, Value};
 use arr_num::Code;
 use arr_overlap::NoMemory;
 use arr_shape::{Slice, checked_axis, reshape, slice, spread, strided, transpose};
-use arr_syntax::{Code16, Cut, Expr, ExprForm, Kind, Lengths, Place, Steps, Type4};
+use arr_tree::{Code16, Cut, Expr, ExprForm, Kind, Lengths, Place, Steps, Type4};
 use arr_view::{MOST_ELEMENTS, View};
 use std::alloc::Global;
 

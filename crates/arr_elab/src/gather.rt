@@ -3,7 +3,7 @@
 ghost use Rattle.std.specs.Prelude.{◌≡◌};
 ghost use Rattle.arr_elab.specs.Contract.{Reads};
 ghost use Rattle.arr_elab.specs.Outcome.{gather_arrays, scatter_arrays, effect};
-ghost use Rattle.arr_syntax.specs.declared.tree.Form.TheVariants as form;
+ghost use Rattle.arr_tree.specs.declared.tree.Form.TheVariants as form;
 
 use crate::fault::ElabFault;
 use crate::forms::{array_of, value};
@@ -14,7 +14,7 @@ use crate::target::same_lists;
 use crate::value::Array;
 use arr_ops::{Gather, Scatter};
 use arr_overlap::repeats;
-use arr_syntax::{Expr, Kind, Place, Word};
+use arr_tree::{Expr, Kind, Place, Word};
 use std::alloc::Global;
 
 /// A fresh base of the index's shape takes numbers of the source, and the name stands for it.

@@ -16,7 +16,7 @@ use crate::value::{Array, Prepared, Value};
 use arr_num::{Code, Elem};
 use arr_ops::Operand;
 use arr_shape::spread;
-use arr_syntax::{Kind, Place};
+use arr_tree::{Kind, Place};
 
 /// An operation of two operands of one type.
 fn paired(at: Place, code: Code, elem: Elem, shape: ArrayShape, x: Operand, y: Operand) -> Prepared

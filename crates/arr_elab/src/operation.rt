@@ -18,7 +18,7 @@ use crate::value::{Array, Pending, Prepared, Value};
 use arr_num::{Code, Elem};
 use arr_ops::{Op, Operand};
 use arr_shape::ShapeFault;
-use arr_syntax::{Kind, Place};
+use arr_tree::{Kind, Place};
 use arr_view::View;
 
 /// An operation without an output.

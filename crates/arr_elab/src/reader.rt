@@ -19,7 +19,7 @@ use crate::step::Step;
 use crate::value::Array;
 use arr_ops::Op;
 use arr_overlap::NoMemory;
-use arr_syntax::{Kind, Lengths, Place, Word};
+use arr_tree::{Kind, Lengths, Place, Word};
 use arr_view::View;
 use std::alloc::Global;
 use std::marker::Model;

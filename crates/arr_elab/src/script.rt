@@ -1,13 +1,13 @@
 //! The statements of a script, one after another.
 
 ghost use Rattle.std.specs.Prelude.{◌≡◌, IfErr, IfOk, Err, Ok, true};
-ghost use Rattle.arr_syntax.specs.declared.refusal.Refusal.{Refusal};
+ghost use Rattle.arr_tree.specs.declared.refusal.Refusal.{Refusal};
 ghost use Rattle.arr_elab.specs.declared.fault.ElabFault.TheVariants.{Refused};
 ghost use Rattle.arr_elab.specs.Contract.{Reads};
 ghost use Rattle.arr_elab.specs.Outcome as spec;
 ghost use Rattle.arr_elab.specs.Outcome.{IsBegun, IsReached};
 ghost use Rattle.arr_elab.specs.Recording.{is_recording};
-ghost use Rattle.arr_syntax.specs.declared.tree.Form.TheVariants as form;
+ghost use Rattle.arr_tree.specs.declared.tree.Form.TheVariants as form;
 
 use crate::fault::ElabFault;
 use crate::forms::{array, prepared};
@@ -17,7 +17,7 @@ use crate::reader::Reader;
 use crate::step::Step;
 use crate::target::stored;
 use arr_num::Code;
-use arr_syntax::{Expr, Form, Place, Script, Statement};
+use arr_tree::{Expr, Form, Place, Script, Statement};
 use std::alloc::Global;
 
 fn print(alloc: Global, reader: &mut Reader, e: &Expr) -> Result<(), ElabFault>

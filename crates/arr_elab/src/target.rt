@@ -16,7 +16,7 @@ use arr_num::Code;
 use arr_ops::Operand;
 use arr_overlap::repeats;
 use arr_shape::spread;
-use arr_syntax::{Kind, Place};
+use arr_tree::{Kind, Place};
 use arr_view::View;
 use std::alloc::Global;
 

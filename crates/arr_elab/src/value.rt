@@ -5,7 +5,7 @@ ghost use Rattle.std.specs.Prelude.{◌≡◌};
 use crate::shape::ArrayShape;
 use arr_num::Elem;
 use arr_ops::Op;
-use arr_syntax::Place;
+use arr_tree::Place;
 use arr_view::View;
 
 /// A view, and the type of its base.

@@ -12,7 +12,9 @@ use Rattle.arr_elab.specs.declared.step.Step.TheVariants as step
 use Rattle.arr_elab.specs.declared.step.Step.TheVariants.{Act, Name, Forget, Done, Cut}
 use Rattle.arr_elab.specs.Steps.{deeds}
 use Rattle.arr_elab.specs.Outcome.{outcome}
-use Rattle.arr_elab.proofs.Tokens.{tokens, Statement, Script, few_of_text}
+use Rattle.arr_tree.specs.declared.tree.Statement.{Statement}
+use Rattle.arr_tree.specs.Weights.{script_weight}
+use Rattle.arr_elab.proofs.Counted.{few_deeds}
 use Rattle.arr_record.specs.declared.part.Part.{Part}
 use Rattle.arr_record.specs.declared.part.Part.TheVariants as part
 use Rattle.arr_record.specs.Parts.{Written, State, most, cut_list, cut_if, put, next_op, append, free, free_each, is_named, done, made, after, after_all, nothing_yet, parts_of}
@@ -178,25 +180,25 @@ parts_filled steps =
     let none : 0 ≤ 0 = omega arith in
     cut_filled last.written.parts last.written.waiting (done_filled (record s { names = [] }) (all_filled nothing_yet steps none))
 
--- ---- a script of so many bytes
+-- ---- a script of some weight
 
--- how many operations and parts a text's steps have
-pub record Few (text : List ℕ) (steps : List Step) : Type 0 where
-  pub operations : total size_of (parts_of steps) ≤ 2 * (length text + 1)
-  pub parts : length (parts_of steps) ≤ 2 * (length text + 1)
+-- how many operations and parts the steps have of a script that weighs no more than this
+pub record Few (n : ℕ) (steps : List Step) : Type 0 where
+  pub operations : total size_of (parts_of steps) ≤ 2 * n
+  pub parts : length (parts_of steps) ≤ 2 * n
 
-pub few_of : (text : List ℕ) (ss : List Statement) (steps : List Step) → Script (tokens text) ss → outcome ss ≡ Ok steps → Few text steps
-few_of text ss steps script e =
-    let recorded : deeds steps ≤ length text + 1 = few_of_text text ss steps script e in
+pub few_of : (n : ℕ) (ss : List Statement) (steps : List Step) → script_weight ss ≤ n → outcome ss ≡ Ok steps → Few n steps
+few_of n ss steps weighs e =
+    let recorded : deeds steps ≤ script_weight ss = few_deeds ss steps e in
     let written : total size_of (parts_of steps) ≤ 2 * deeds steps = few_operations steps in
     let filled : length (parts_of steps) ≤ total size_of (parts_of steps) = parts_filled steps in
     record { operations = omega arith; parts = omega arith }
 
--- of a script of at most a megabyte
-pub few_parts : (text : List ℕ) (ss : List Statement) (steps : List Step) → length text ≤ 1048576 → Script (tokens text) ss → outcome ss ≡ Ok steps
+-- of a script that weighs no more than a text of at most a megabyte, and its end
+pub few_parts : (bytes : ℕ) (ss : List Statement) (steps : List Step) → bytes ≤ 1048576 → script_weight ss ≤ bytes + 1 → outcome ss ≡ Ok steps
     → (total size_of (parts_of steps) < 4194304) × (length (parts_of steps) < 4194304)
-few_parts text ss steps short script e =
-    let few = few_of text ss steps script e in
-    let operations : total size_of (parts_of steps) ≤ 2 * (length text + 1) = few.operations in
-    let parts : length (parts_of steps) ≤ 2 * (length text + 1) = few.parts in
+few_parts bytes ss steps short weighs e =
+    let few = few_of (bytes + 1) ss steps weighs e in
+    let operations : total size_of (parts_of steps) ≤ 2 * (bytes + 1) = few.operations in
+    let parts : length (parts_of steps) ≤ 2 * (bytes + 1) = few.parts in
     (omega arith, omega arith)

@@ -7,9 +7,10 @@ use Rattle.std.specs.Option.{option_to_list}
 use Rattle.std.specs.Io.KnownBytes.{Appends}
 use Rattle.std.proofs.lemmas.Bool.{and_parts, and_from, leb-true, lt-ltb}
 use Rattle.std.proofs.lemmas.List.{map-append}
-use Rattle.arr_syntax.specs.Tokens.{tokens}
+use Rattle.arr_tokens.specs.Tokens.{tokens}
 use Rattle.arr_syntax.proofs.Unique.{not_both, one_script}
-use Rattle.arr_syntax.specs.declared.refusal.Refusal.{Refusal}
+use Rattle.arr_syntax.proofs.Weighed.{script_weighs}
+use Rattle.arr_tree.specs.declared.refusal.Refusal.{Refusal}
 use Rattle.arr_elab.specs.declared.step.Step.{Step}
 use Rattle.arr_elab.specs.Outcome.{outcome}
 use Rattle.arr_elab.specs.Steps.{eager_arrays}
@@ -350,7 +351,7 @@ whole_verdict choice script best cert run whole w given check is_script is_proof
     let a = run.accepted in
     let parts : run.parts ≡ parts_of run.steps = sym (append-nil run.parts) ∙ ap (λ (ps : List Part). run.parts ++ ps) (sym whole.ends) ∙ run.are in
     let formed : list_all is_part run.parts ≡ true = ap (list_all is_part) parts ∙ all_parts run.steps (recorded a.statements run.steps a.accepts) in
-    let few = (few_parts script a.statements run.steps a.short a.reads.script a.accepts).1 in
+    let few = (few_parts (length script) a.statements run.steps a.short (script_weighs script a.statements a.reads.script) a.accepts).1 in
     let long = ap length parts in
     let agreed : Agreed (run_text run) 1 most_proof (lists_of run.parts) [] 1 (run_bounds run) = agreed_parts choice best cert run.parts 1 run.planned (eager_arrays run.steps) 1 most_proof [] formed (omega arith) w in
     let read : IsRead (marked 1 most_proof (lines (run_text run))) check.reading = told given.proof is_proof check.read in

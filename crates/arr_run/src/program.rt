@@ -26,7 +26,7 @@ use arr_demo::demo_script;
 use arr_io::{NoMemory, ReadFailure, Sink, Source, WriteFault, read_up_to, write_all};
 use arr_record::Part;
 use arr_store::Store;
-use arr_syntax::Refusal;
+use arr_tree::Refusal;
 use std::alloc::Global;
 
 /// The statuses of the program.

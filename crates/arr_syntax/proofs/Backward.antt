@@ -1,15 +1,15 @@
 -- What one token makes of what is wanted, from the machine to the grammar.
 use Rattle.std.proofs.Common.{◌≡◌, ℕ, zero, suc, ◌<◌, ◌≤◌, List, [], ◌∷◌, Option, Some, None, refl, sym, ap, subst, arith, Bool, true, false, cond, ◌&&◌, nat_le, nat_lt, ◌∙◌, ◌⊎◌, inl, inr}
 use Rattle.std.proofs.lemmas.Bool.Decides.{nat_tests}
-use Rattle.arr_syntax.specs.declared.refusal.Place.{Place}
-use Rattle.arr_syntax.specs.declared.token.Item.{Item}
-use Rattle.arr_syntax.specs.declared.token.Token.{Token}
-use Rattle.arr_syntax.specs.declared.token.Token.TheVariants as token
-use Rattle.arr_syntax.specs.declared.token.Sign.{Sign}
-use Rattle.arr_syntax.specs.declared.token.Sign.TheVariants as sign
-use Rattle.arr_syntax.specs.declared.token.Keyword.TheVariants as keyword
-use Rattle.arr_syntax.specs.declared.token.View.{View}
-use Rattle.arr_syntax.specs.declared.token.View.TheVariants.{Broadcast, Transpose, Reshape, Strided}
+use Rattle.arr_tree.specs.declared.refusal.Place.{Place}
+use Rattle.arr_tokens.specs.declared.token.Item.{Item}
+use Rattle.arr_tokens.specs.declared.token.Token.{Token}
+use Rattle.arr_tokens.specs.declared.token.Token.TheVariants as token
+use Rattle.arr_tokens.specs.declared.token.Sign.{Sign}
+use Rattle.arr_tokens.specs.declared.token.Sign.TheVariants as sign
+use Rattle.arr_tokens.specs.declared.token.Keyword.TheVariants as keyword
+use Rattle.arr_tokens.specs.declared.token.View.{View}
+use Rattle.arr_tokens.specs.declared.token.View.TheVariants.{Broadcast, Transpose, Reshape, Strided}
 use Rattle.arr_syntax.specs.declared.state.Mode.{Mode}
 use Rattle.arr_syntax.specs.declared.state.Mode.TheVariants as mode
 use Rattle.arr_syntax.specs.declared.state.Rule.{Rule}
@@ -23,15 +23,16 @@ use Rattle.arr_syntax.specs.declared.state.Part.TheVariants as part
 use Rattle.arr_syntax.specs.declared.state.Frame.{Frame}
 use Rattle.arr_syntax.specs.declared.state.State.{State}
 use Rattle.arr_syntax.specs.declared.state.State.TheVariants as state
-use Rattle.arr_syntax.specs.declared.state.Filled.{Filled}
-use Rattle.arr_syntax.specs.declared.state.Filled.TheVariants as filled
-use Rattle.arr_syntax.specs.declared.tree.Code16.{Code16}
-use Rattle.arr_syntax.specs.declared.tree.Type4.{Type4}
-use Rattle.arr_syntax.specs.declared.tree.Word.{Word}
-use Rattle.arr_syntax.specs.declared.tree.Expr.{Expr}
-use Rattle.arr_syntax.specs.declared.tree.Statement.{Statement}
+use Rattle.arr_syntax.specs.Filling.{Filling}
+use Rattle.arr_syntax.specs.Filling as filled
+use Rattle.arr_tree.specs.declared.tree.Code16.{Code16}
+use Rattle.arr_tree.specs.declared.tree.Type4.{Type4}
+use Rattle.arr_tree.specs.declared.tree.Word.{Word}
+use Rattle.arr_tree.specs.declared.tree.Expr.{Expr}
+use Rattle.arr_tree.specs.declared.tree.Statement.{Statement}
 use Rattle.arr_syntax.specs.Grammar as grammar
-use Rattle.arr_syntax.specs.Grammar.{IsSign, IsKeyword, Rest, Level, Primary, Placed, ViewCall, Argument, Ends, Script, OneStatement, operator, comparison, index_at, name_of, word_at, unary_at, binary_at}
+use Rattle.arr_tree.specs.Trees.{index_at, name_of, word_at, unary_at, binary_at}
+use Rattle.arr_syntax.specs.Grammar.{IsSign, IsKeyword, Rest, Level, Primary, Placed, ViewCall, Argument, Ends, Script, OneStatement, operator, comparison}
 use Rattle.arr_syntax.specs.Machine as machine
 use Rattle.arr_syntax.specs.Machine.{level, rank, either, behind, goes, give, leaves, fits, step, again, wanted, fresh, with_tree, fill, row_of, level_of, wanted_in, tree_of, stated, onward, opened, opens, frame, target, bound}
 use Rattle.arr_syntax.proofs.Completes.{IsEmpty, NextField, Then, Climb, there, up, BoundIn, After, Given, RowIn, Tree, Wants, Completes, Next, Sits, Formed, Takes, WellFormed}
@@ -91,7 +92,7 @@ resume_back n at (p ∷ ps) f s ts r k = k
 resume_back (node.Tree n) at [] f s ts r k = k
 resume_back (node.Statement h) at [] f s ts r k = k
 
-onward_back : (n : Node) (at : Place) (ps : List Part) (s : List Frame) (x : Filled) (ts : List Item) (r : List Statement) →
+onward_back : (n : Node) (at : Place) (ps : List Part) (s : List Frame) (x : Filling) (ts : List Item) (r : List Statement) →
     Next (onward n at ps s x) ts r → NextField x ts (λ g b. RowIn n at ps g s b r)
 onward_back n at ps s filled.Stuck ts r k = absurd k
 onward_back n at ps s (filled.Over f) ts r k = resume_back n at ps f s ts r k

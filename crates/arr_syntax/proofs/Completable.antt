@@ -1,15 +1,15 @@
 -- Each state can be completed, stays well formed, and is over only at the end.
 use Rattle.std.proofs.Common.{◌≡◌, ℕ, pos, neg_ℤ, ◌<◌, ◌≤◌, List, [], ◌∷◌, ◌++◌, Option, Some, None, refl, arith, Bool, true, false, cond, ◌&&◌, nat_le, nat_lt, inl}
 use Rattle.std.proofs.lemmas.Bool.Decides.{nat_tests}
-use Rattle.arr_syntax.specs.declared.refusal.Place.{Place}
-use Rattle.arr_syntax.specs.declared.token.Item.{Item}
-use Rattle.arr_syntax.specs.declared.token.Token.{Token}
-use Rattle.arr_syntax.specs.declared.token.Token.TheVariants as token
-use Rattle.arr_syntax.specs.declared.token.Sign.{Sign}
-use Rattle.arr_syntax.specs.declared.token.Sign.TheVariants as sign
-use Rattle.arr_syntax.specs.declared.token.Keyword.TheVariants as keyword
-use Rattle.arr_syntax.specs.declared.token.View.{View}
-use Rattle.arr_syntax.specs.declared.token.View.TheVariants.{Broadcast, Transpose, Reshape, Strided}
+use Rattle.arr_tree.specs.declared.refusal.Place.{Place}
+use Rattle.arr_tokens.specs.declared.token.Item.{Item}
+use Rattle.arr_tokens.specs.declared.token.Token.{Token}
+use Rattle.arr_tokens.specs.declared.token.Token.TheVariants as token
+use Rattle.arr_tokens.specs.declared.token.Sign.{Sign}
+use Rattle.arr_tokens.specs.declared.token.Sign.TheVariants as sign
+use Rattle.arr_tokens.specs.declared.token.Keyword.TheVariants as keyword
+use Rattle.arr_tokens.specs.declared.token.View.{View}
+use Rattle.arr_tokens.specs.declared.token.View.TheVariants.{Broadcast, Transpose, Reshape, Strided}
 use Rattle.arr_syntax.specs.declared.state.Mode.{Mode}
 use Rattle.arr_syntax.specs.declared.state.Mode.TheVariants as mode
 use Rattle.arr_syntax.specs.declared.state.Rule.{Rule}
@@ -26,15 +26,16 @@ use Rattle.arr_syntax.specs.declared.state.Frame.{Frame}
 use Rattle.arr_syntax.specs.declared.state.State.{State}
 use Rattle.arr_syntax.specs.declared.state.State.TheVariants as state
 use Rattle.arr_syntax.specs.declared.state.Move.{Move}
-use Rattle.arr_syntax.specs.declared.state.Filled.{Filled}
-use Rattle.arr_syntax.specs.declared.state.Filled.TheVariants as filled
-use Rattle.arr_syntax.specs.declared.tree.Code16.{Code16}
-use Rattle.arr_syntax.specs.declared.tree.Word.{Word}
-use Rattle.arr_syntax.specs.declared.tree.Expr.{Expr}
-use Rattle.arr_syntax.specs.declared.tree.Statement.{Statement}
-use Rattle.arr_syntax.specs.declared.tree.Type4.TheVariants.{I64}
+use Rattle.arr_syntax.specs.Filling.{Filling}
+use Rattle.arr_syntax.specs.Filling as filled
+use Rattle.arr_tree.specs.declared.tree.Code16.{Code16}
+use Rattle.arr_tree.specs.declared.tree.Word.{Word}
+use Rattle.arr_tree.specs.declared.tree.Expr.{Expr}
+use Rattle.arr_tree.specs.declared.tree.Statement.{Statement}
+use Rattle.arr_tree.specs.declared.tree.Type4.TheVariants.{I64}
 use Rattle.arr_syntax.specs.Grammar as grammar
-use Rattle.arr_syntax.specs.Grammar.{operator, comparison, cut, literal_at, lengths_at, steps_at, word_at, name_of, delete_of, Ends, Script, Listed, Length, Stride, Slice}
+use Rattle.arr_tree.specs.Trees.{cut, literal_at, lengths_at, steps_at, word_at, name_of, delete_of}
+use Rattle.arr_syntax.specs.Grammar.{operator, comparison, Ends, Script, Listed, Length, Stride, Slice}
 use Rattle.arr_syntax.specs.Machine as machine
 use Rattle.arr_syntax.specs.Machine.{level, rank, either, behind, goes, give, leaves, fits, step, wanted, fresh, with_tree, with_cut, fill, row_of, array_row, level_of, inner, tree_of, stated, onward, opened, opens, frame, target, bound}
 use Rattle.arr_syntax.proofs.Completes.{FieldIn, PartIn, Fills, Makes, After, Given, RowIn, Wants, Completes, Rowed, Sits, Formed, Takes, WellFormed, WellMoved}
@@ -49,7 +50,7 @@ resume_formed n at (p ∷ ps) f s w h = (w, h)
 resume_formed (node.Tree n) at [] f s w h = (h.1, h.2)
 resume_formed (node.Statement x) at [] f s w h = tt
 
-onward_formed : (n : Node) (at : Place) (ps : List Part) (s : List Frame) (x : Filled) → Rowed n ps → Sits n (wanted s) (Formed s) → WellMoved (onward n at ps s x)
+onward_formed : (n : Node) (at : Place) (ps : List Part) (s : List Frame) (x : Filling) → Rowed n ps → Sits n (wanted s) (Formed s) → WellMoved (onward n at ps s x)
 onward_formed n at ps s filled.Stuck w h = tt
 onward_formed n at ps s (filled.Over f) w h = resume_formed n at ps f s w h
 onward_formed n at ps s (filled.Turns p f) w h = (w, h)

@@ -1,9 +1,9 @@
 -- What the tokens must be from a state on, by the grammar.
 use Rattle.std.proofs.Common.{◌≡◌, ℕ, suc, ℤ, pos, neg_ℤ, ◌≤◌, Bool, true, List, [], ◌∷◌, ◌++◌, Option, Some, ◌⊎◌}
-use Rattle.arr_syntax.specs.declared.refusal.Place.{Place}
-use Rattle.arr_syntax.specs.declared.token.Item.{Item}
-use Rattle.arr_syntax.specs.declared.token.Sign.TheVariants as sign
-use Rattle.arr_syntax.specs.declared.token.Keyword.TheVariants as keyword
+use Rattle.arr_tree.specs.declared.refusal.Place.{Place}
+use Rattle.arr_tokens.specs.declared.token.Item.{Item}
+use Rattle.arr_tokens.specs.declared.token.Sign.TheVariants as sign
+use Rattle.arr_tokens.specs.declared.token.Keyword.TheVariants as keyword
 use Rattle.arr_syntax.specs.declared.state.Mode.{Mode}
 use Rattle.arr_syntax.specs.declared.state.Mode.TheVariants as mode
 use Rattle.arr_syntax.specs.declared.state.Head.TheVariants as head
@@ -19,14 +19,15 @@ use Rattle.arr_syntax.specs.declared.state.State.{State}
 use Rattle.arr_syntax.specs.declared.state.State.TheVariants as state
 use Rattle.arr_syntax.specs.declared.state.Move.{Move}
 use Rattle.arr_syntax.specs.declared.state.Move.TheVariants as move
-use Rattle.arr_syntax.specs.declared.state.Filled.{Filled}
-use Rattle.arr_syntax.specs.declared.state.Filled.TheVariants as filled
-use Rattle.arr_syntax.specs.declared.tree.Type4.{Type4}
-use Rattle.arr_syntax.specs.declared.tree.Cut.{Cut}
-use Rattle.arr_syntax.specs.declared.tree.Word.{Word}
-use Rattle.arr_syntax.specs.declared.tree.Expr.{Expr}
-use Rattle.arr_syntax.specs.declared.tree.Statement.{Statement}
-use Rattle.arr_syntax.specs.Grammar.{IsSign, IsKeyword, IsName, IsNumber, Literal, Listed, Length, Stride, Bound, Step, Slice, Shape, Strides, Index, Level, Placed, Rest, Script, Ends, literal_at, lengths_at, steps_at, index_at, name_of, word_at, delete_of}
+use Rattle.arr_syntax.specs.Filling.{Filling}
+use Rattle.arr_syntax.specs.Filling as filled
+use Rattle.arr_tree.specs.declared.tree.Type4.{Type4}
+use Rattle.arr_tree.specs.declared.tree.Cut.{Cut}
+use Rattle.arr_tree.specs.declared.tree.Word.{Word}
+use Rattle.arr_tree.specs.declared.tree.Expr.{Expr}
+use Rattle.arr_tree.specs.declared.tree.Statement.{Statement}
+use Rattle.arr_tree.specs.Trees.{literal_at, lengths_at, steps_at, index_at, name_of, word_at, delete_of}
+use Rattle.arr_syntax.specs.Grammar.{IsSign, IsKeyword, IsName, IsNumber, Literal, Listed, Length, Stride, Bound, Step, Slice, Shape, Strides, Index, Level, Placed, Rest, Script, Ends}
 use Rattle.arr_syntax.specs.Machine.{fresh, with_tree, with_cut, row_of, level_of, inner, wanted_in, tree_of, stated, wanted, target, bound}
 
 -- a token comes next of which this holds, with the tokens after it
@@ -168,7 +169,7 @@ Next move.Stuck ts r = ⊥
 Next (move.On st) ts r = Completes st ts r
 Next (move.Emit s st) ts r = (ss : List Statement) × Completes st ts ss × (r ≡ s ∷ ss)
 
-abbrev pub NextField : Filled → List Item → (Fields → List Item → Type 0) → Type 0
+abbrev pub NextField : Filling → List Item → (Fields → List Item → Type 0) → Type 0
 NextField filled.Stuck ts K = ⊥
 NextField (filled.Over f) ts K = K f ts
 NextField (filled.Turns p f) ts K = FieldIn p f ts K

@@ -1,17 +1,18 @@
 -- What one token makes of a part, from the grammar to the machine and back.
 use Rattle.std.proofs.Common.{ℕ, ℤ, pos, neg_ℤ, true, false, List, [], ◌∷◌, ◌++◌, Option, Some, None, inl, inr, refl, sym, subst, append_assoc}
-use Rattle.arr_syntax.specs.declared.refusal.Place.{Place}
-use Rattle.arr_syntax.specs.declared.token.Item.{Item}
-use Rattle.arr_syntax.specs.declared.token.Token.{Token}
-use Rattle.arr_syntax.specs.declared.token.Token.TheVariants as token
-use Rattle.arr_syntax.specs.declared.token.Sign.TheVariants as sign
-use Rattle.arr_syntax.specs.declared.token.Keyword.TheVariants as keyword
+use Rattle.arr_tree.specs.declared.refusal.Place.{Place}
+use Rattle.arr_tokens.specs.declared.token.Item.{Item}
+use Rattle.arr_tokens.specs.declared.token.Token.{Token}
+use Rattle.arr_tokens.specs.declared.token.Token.TheVariants as token
+use Rattle.arr_tokens.specs.declared.token.Sign.TheVariants as sign
+use Rattle.arr_tokens.specs.declared.token.Keyword.TheVariants as keyword
 use Rattle.arr_syntax.specs.declared.state.Fields.{Fields}
 use Rattle.arr_syntax.specs.declared.state.Field.{Field}
 use Rattle.arr_syntax.specs.declared.state.Field.TheVariants as field
-use Rattle.arr_syntax.specs.declared.tree.Cut.{Cut}
+use Rattle.arr_tree.specs.declared.tree.Cut.{Cut}
 use Rattle.arr_syntax.specs.Grammar as grammar
-use Rattle.arr_syntax.specs.Grammar.{Listed, Length, Stride, Slice, cut, plain, negative, last, and_more, bracketed, one_length, one_stride, no_bound, one_bound, no_step, one_step, short, long, literal_at, lengths_at, steps_at}
+use Rattle.arr_tree.specs.Trees.{cut, literal_at, lengths_at, steps_at}
+use Rattle.arr_syntax.specs.Grammar.{Listed, Length, Stride, Slice, plain, negative, last, and_more, bracketed, one_length, one_stride, no_bound, one_bound, no_step, one_step, short, long}
 use Rattle.arr_syntax.specs.Machine.{fill}
 use Rattle.arr_syntax.proofs.Completes.{FieldIn, NextField, LengthIn, StrideIn, MoreStridesIn, StartIn, AfterStepIn, StepIn, AfterStopIn, StopIn}
 

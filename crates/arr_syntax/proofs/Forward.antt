@@ -1,15 +1,15 @@
 -- What one token makes of what is wanted, from the grammar to the machine.
 use Rattle.std.proofs.Common.{◌≡◌, ℕ, suc, ◌<◌, ◌≤◌, List, [], ◌∷◌, Option, Some, refl, sym, ap, subst, arith, Bool, true, false, cond, ◌&&◌, eqb, nat_le, nat_lt, ◌⊎◌, inl, inr}
 use Rattle.std.proofs.lemmas.Bool.Decides.{nat_tests}
-use Rattle.arr_syntax.specs.declared.refusal.Place.{Place}
-use Rattle.arr_syntax.specs.declared.token.Item.{Item}
-use Rattle.arr_syntax.specs.declared.token.Token.{Token}
-use Rattle.arr_syntax.specs.declared.token.Token.TheVariants as token
-use Rattle.arr_syntax.specs.declared.token.Sign.{Sign}
-use Rattle.arr_syntax.specs.declared.token.Sign.TheVariants as sign
-use Rattle.arr_syntax.specs.declared.token.Keyword.TheVariants as keyword
-use Rattle.arr_syntax.specs.declared.token.View.{View}
-use Rattle.arr_syntax.specs.declared.token.View.TheVariants.{Broadcast, Transpose, Reshape, Strided}
+use Rattle.arr_tree.specs.declared.refusal.Place.{Place}
+use Rattle.arr_tokens.specs.declared.token.Item.{Item}
+use Rattle.arr_tokens.specs.declared.token.Token.{Token}
+use Rattle.arr_tokens.specs.declared.token.Token.TheVariants as token
+use Rattle.arr_tokens.specs.declared.token.Sign.{Sign}
+use Rattle.arr_tokens.specs.declared.token.Sign.TheVariants as sign
+use Rattle.arr_tokens.specs.declared.token.Keyword.TheVariants as keyword
+use Rattle.arr_tokens.specs.declared.token.View.{View}
+use Rattle.arr_tokens.specs.declared.token.View.TheVariants.{Broadcast, Transpose, Reshape, Strided}
 use Rattle.arr_syntax.specs.declared.state.Mode.{Mode}
 use Rattle.arr_syntax.specs.declared.state.Mode.TheVariants as mode
 use Rattle.arr_syntax.specs.declared.state.Rule.TheVariants as rule
@@ -23,15 +23,16 @@ use Rattle.arr_syntax.specs.declared.state.Frame.{Frame}
 use Rattle.arr_syntax.specs.declared.state.State.{State}
 use Rattle.arr_syntax.specs.declared.state.State.TheVariants as state
 use Rattle.arr_syntax.specs.declared.state.Move.{Move}
-use Rattle.arr_syntax.specs.declared.state.Filled.{Filled}
-use Rattle.arr_syntax.specs.declared.state.Filled.TheVariants as filled
-use Rattle.arr_syntax.specs.declared.tree.Code16.{Code16}
-use Rattle.arr_syntax.specs.declared.tree.Code16.TheVariants as code
-use Rattle.arr_syntax.specs.declared.tree.Word.{Word}
-use Rattle.arr_syntax.specs.declared.tree.Expr.{Expr}
-use Rattle.arr_syntax.specs.declared.tree.Statement.{Statement}
+use Rattle.arr_syntax.specs.Filling.{Filling}
+use Rattle.arr_syntax.specs.Filling as filled
+use Rattle.arr_tree.specs.declared.tree.Code16.{Code16}
+use Rattle.arr_tree.specs.declared.tree.Code16.TheVariants as code
+use Rattle.arr_tree.specs.declared.tree.Word.{Word}
+use Rattle.arr_tree.specs.declared.tree.Expr.{Expr}
+use Rattle.arr_tree.specs.declared.tree.Statement.{Statement}
 use Rattle.arr_syntax.specs.Grammar as grammar
-use Rattle.arr_syntax.specs.Grammar.{IsSign, IsKeyword, Rest, Level, Primary, Placed, ViewCall, Argument, Ends, Script, OneStatement, operator, comparison, index_at, name_of, word_at, unary_at, binary_at}
+use Rattle.arr_tree.specs.Trees.{index_at, name_of, word_at, unary_at, binary_at}
+use Rattle.arr_syntax.specs.Grammar.{IsSign, IsKeyword, Rest, Level, Primary, Placed, ViewCall, Argument, Ends, Script, OneStatement, operator, comparison}
 use Rattle.arr_syntax.specs.Machine as machine
 use Rattle.arr_syntax.specs.Machine.{level, rank, either, behind, goes, give, leaves, fits, step, again, wanted, fresh, with_tree, fill, level_of, inner, wanted_in, tree_of, stated, onward, opened, opens, frame, target, bound}
 use Rattle.arr_syntax.proofs.Completes.{NextField, Climb, there, up, After, Given, RowIn, Tree, Wants, Completes, Next, Low, Sits, Formed, Takes, WellFormed}
@@ -136,7 +137,7 @@ resume_on n at (p ∷ ps) f s ts r k = k
 resume_on (node.Tree n) at [] f s ts r k = k
 resume_on (node.Statement h) at [] f s ts r k = k
 
-onward_on : (n : Node) (at : Place) (ps : List Part) (s : List Frame) (x : Filled) (ts : List Item) (r : List Statement) →
+onward_on : (n : Node) (at : Place) (ps : List Part) (s : List Frame) (x : Filling) (ts : List Item) (r : List Statement) →
     NextField x ts (λ g b. RowIn n at ps g s b r) → Next (onward n at ps s x) ts r
 onward_on n at ps s filled.Stuck ts r k = absurd k
 onward_on n at ps s (filled.Over f) ts r k = resume_on n at ps f s ts r k

@@ -5,5 +5,5 @@ pub mod Backward
 pub mod Completable
 pub mod Reading
 pub mod Unique
-pub mod Cutting
 pub mod Runs
+pub mod Weighed

@@ -1,9 +1,9 @@
 -- One token of a run, and the last one.
-use Rattle.std.proofs.Common.{◌≡◌, ℕ, List, [], ◌∷◌, ◌++◌, Some, None, Ok, Err, refl, sym, ap, subst, Bool, true, false, cond, ◌∙◌}
-use Rattle.arr_syntax.specs.declared.refusal.Place.{Place}
-use Rattle.arr_syntax.specs.declared.token.Item.{Item}
-use Rattle.arr_syntax.specs.declared.token.Token.{Token}
-use Rattle.arr_syntax.specs.declared.token.Token.TheVariants as token
+use Rattle.std.proofs.Common.{◌≡◌, ℕ, List, [], ◌∷◌, ◌++◌, Option, Some, None, Result, Ok, Err, refl, sym, ap, subst, Bool, true, false, cond, ◌∙◌}
+use Rattle.arr_tree.specs.declared.refusal.Place.{Place}
+use Rattle.arr_tokens.specs.declared.token.Item.{Item}
+use Rattle.arr_tokens.specs.declared.token.Token.{Token}
+use Rattle.arr_tokens.specs.declared.token.Token.TheVariants as token
 use Rattle.arr_syntax.specs.declared.state.Mode.{Mode}
 use Rattle.arr_syntax.specs.declared.state.Mode.TheVariants as mode
 use Rattle.arr_syntax.specs.declared.state.Node.{Node}
@@ -18,55 +18,76 @@ use Rattle.arr_syntax.specs.declared.state.State.{State}
 use Rattle.arr_syntax.specs.declared.state.State.TheVariants as state
 use Rattle.arr_syntax.specs.declared.state.Move.{Move}
 use Rattle.arr_syntax.specs.declared.state.Move.TheVariants as move
-use Rattle.arr_syntax.specs.declared.state.Filled.TheVariants as filled
-use Rattle.arr_syntax.specs.declared.tree.Expr.{Expr}
-use Rattle.arr_syntax.specs.declared.tree.Statement.{Statement}
-use Rattle.arr_syntax.specs.declared.refusal.Kind.{Kind}
-use Rattle.arr_syntax.specs.declared.refusal.Kind.TheVariants.{Unexpected}
-use Rattle.arr_syntax.specs.declared.refusal.ParseFault.{ParseFault}
-use Rattle.arr_syntax.specs.declared.refusal.ParseFault.TheVariants.{Refused, NoMemory}
+use Rattle.arr_syntax.specs.Filling as filled
+use Rattle.arr_tree.specs.declared.tree.Expr.{Expr}
+use Rattle.arr_tree.specs.declared.tree.Statement.{Statement}
+use Rattle.arr_tree.specs.declared.refusal.Kind.{Kind}
+use Rattle.arr_tree.specs.declared.refusal.Kind.TheVariants.{Unexpected}
+use Rattle.arr_tree.specs.declared.refusal.ParseFault.{ParseFault}
+use Rattle.arr_tree.specs.declared.refusal.ParseFault.TheVariants.{Refused, NoMemory}
 use Rattle.arr_syntax.specs.Limits.{open_after, used_after}
 use Rattle.arr_syntax.specs.Machine as machine
 use Rattle.arr_syntax.specs.Machine.{step, give, fits, goes, leaves, fill, take, with_tree, level_of, tree_of, stated}
-use Rattle.arr_syntax.specs.Run.{run, own_fault, count_fault, open_fault, outcome, Reading, is_stuck, is_end, behind, Refuses}
+use Rattle.arr_tokens.specs.Tokens.{is_end, behind}
+use Rattle.arr_syntax.specs.Run.{run, own_fault, count_fault, open_fault, unless, expected, counted, opened, outcome, Reading, is_stuck, Refuses}
 use Rattle.arr_syntax.specs.Refused.{IfRefused, IsRefused}
 use Rattle.arr_syntax.proofs.Reading.{run_one, run_end, run_refuses}
 
+-- what passes a fault has none
+passes : {A : Type 0} (f : Option Kind) (r : Result A Kind) (x : A) → unless f r ≡ Ok x → (f ≡ None) × (r ≡ Ok x)
+passes None r x e = (refl, e)
+passes (Some k) r x e = cc
+
+too_deep : (f : Option Kind) (n : ℕ) (k : Kind) → unless f (Ok n) ≡ Err k → f ≡ Some k
+too_deep (Some j) n k e = cc
+too_deep None n k e = cc
+
 module _ (o u : ℕ) (done : List Statement) (st : State) (i : Item) (is : List Item) where
-  pub run_own : (k : Kind) → own_fault i.token ≡ Some k → run o u done st (i ∷ is) ≡ Err (record { at = i.at; kind = k })
-  run_own k e = rw (run_one o u done st i is, e) refl
+  refused_by : (f g : Option Kind) (k : Kind) (n : ℕ) (r : Result Move Kind) → unless f (unless g (Ok n)) ≡ Err k → unless f (unless g r) ≡ Err k
+  refused_by (Some j) g k n r e = cc
+  refused_by None (Some j) k n r e = cc
+  refused_by None None k n r e = cc
 
-  pub run_count : (k : Kind) → own_fault i.token ≡ None → count_fault u i.token ≡ Some k → run o u done st (i ∷ is) ≡ Err (record { at = i.at; kind = k })
-  run_count k e c = rw (run_one o u done st i is, e, c) refl
+  pub run_counted : (k : Kind) → Err k ≡ counted u i.token → run o u done st (i ∷ is) ≡ Err (record { at = i.at; kind = k })
+  run_counted k e =
+      let w = refused_by (own_fault i.token) (count_fault u i.token) k (used_after u i.token) (expected (step st i) (open_fault o i.token)) (sym e) in
+      rw (run_one o u done st i is, w) refl
 
-  pub run_stuck : own_fault i.token ≡ None → count_fault u i.token ≡ None → step st i ≡ move.Stuck → run o u done st (i ∷ is) ≡ Err (record { at = i.at; kind = Unexpected })
-  run_stuck e c s = rw (run_one o u done st i is, e, c, s) refl
+  module _ (n : ℕ) (c : Ok n ≡ counted u i.token) where
+    own_none : own_fault i.token ≡ None
+    own_none = (passes (own_fault i.token) _ n (sym c)).0
 
-  pub run_deep : (k : Kind) (m : Move) → own_fault i.token ≡ None → count_fault u i.token ≡ None → open_fault o i.token ≡ Some k → step st i ≡ m → (m ≡ move.Stuck → ⊥) →
-      run o u done st (i ∷ is) ≡ Err (record { at = i.at; kind = k })
-  run_deep k move.Stuck e c d s n = absurd (n refl)
-  run_deep k (move.On next) e c d s n = rw (run_one o u done st i is, e, c, s, d) refl
-  run_deep k (move.Emit t next) e c d s n = rw (run_one o u done st i is, e, c, s, d) refl
+    count_none : count_fault u i.token ≡ None
+    count_none = (passes (count_fault u i.token) _ n (passes (own_fault i.token) _ n (sym c)).1).0
 
-  pub run_on : (next : State) → own_fault i.token ≡ None → count_fault u i.token ≡ None → open_fault o i.token ≡ None → step st i ≡ move.On next →
-      run o u done st (i ∷ is) ≡ run (open_after o i.token) (used_after u i.token) done next is
-  run_on next e c d s = rw (run_one o u done st i is, e, c, s, d) refl
+    count_is : used_after u i.token ≡ n
+    count_is = let h = (passes (count_fault u i.token) _ n (passes (own_fault i.token) _ n (sym c)).1).1 in cc
 
-  pub run_emit : (t : Statement) (next : State) → own_fault i.token ≡ None → count_fault u i.token ≡ None → open_fault o i.token ≡ None → step st i ≡ move.Emit t next →
-      run o u done st (i ∷ is) ≡ run (open_after o i.token) (used_after u i.token) (done ++ t ∷ []) next is
-  run_emit t next e c d s = rw (run_one o u done st i is, e, c, s, d) refl
+    pub run_stuck : step st i ≡ move.Stuck → run o u done st (i ∷ is) ≡ Err (record { at = i.at; kind = Unexpected })
+    run_stuck s = rw (run_one o u done st i is, own_none, count_none, s) refl
 
-  pub run_stuck_if : (m : Move) → own_fault i.token ≡ None → count_fault u i.token ≡ None → m ≡ step st i → is_stuck m ≡ true →
-      run o u done st (i ∷ is) ≡ Err (record { at = i.at; kind = Unexpected })
-  run_stuck_if move.Stuck e c s b = run_stuck e c (sym s)
-  run_stuck_if (move.On next) e c s b = cc
-  run_stuck_if (move.Emit t next) e c s b = cc
+    pub run_stuck_if : (m : Move) → m ≡ step st i → is_stuck m ≡ true → run o u done st (i ∷ is) ≡ Err (record { at = i.at; kind = Unexpected })
+    run_stuck_if move.Stuck s b = run_stuck (sym s)
+    run_stuck_if (move.On next) s b = cc
+    run_stuck_if (move.Emit t next) s b = cc
 
-  pub run_deep_if : (k : Kind) (m : Move) → own_fault i.token ≡ None → count_fault u i.token ≡ None → open_fault o i.token ≡ Some k → m ≡ step st i → is_stuck m ≡ false →
-      run o u done st (i ∷ is) ≡ Err (record { at = i.at; kind = k })
-  run_deep_if k move.Stuck e c d s b = cc
-  run_deep_if k (move.On next) e c d s b = run_deep k (move.On next) e c d (sym s) (λ h. cc)
-  run_deep_if k (move.Emit t next) e c d s b = run_deep k (move.Emit t next) e c d (sym s) (λ h. cc)
+    pub run_deep_if : (k : Kind) (m : Move) → Err k ≡ opened o i.token → m ≡ step st i → is_stuck m ≡ false → run o u done st (i ∷ is) ≡ Err (record { at = i.at; kind = k })
+    run_deep_if k move.Stuck d s b = cc
+    run_deep_if k (move.On next) d s b = rw (run_one o u done st i is, own_none, count_none, sym s, too_deep (open_fault o i.token) _ k (sym d)) refl
+    run_deep_if k (move.Emit t next) d s b = rw (run_one o u done st i is, own_none, count_none, sym s, too_deep (open_fault o i.token) _ k (sym d)) refl
+
+    module _ (d : ℕ) (b : Ok d ≡ opened o i.token) where
+      open_none : open_fault o i.token ≡ None
+      open_none = (passes (open_fault o i.token) _ d (sym b)).0
+
+      open_is : open_after o i.token ≡ d
+      open_is = let h = (passes (open_fault o i.token) _ d (sym b)).1 in cc
+
+      pub run_on : (next : State) → step st i ≡ move.On next → run o u done st (i ∷ is) ≡ run d n done next is
+      run_on next s = rw (← open_is, ← count_is, run_one o u done st i is, own_none, count_none, s, open_none) refl
+
+      pub run_emit : (t : Statement) (next : State) → step st i ≡ move.Emit t next → run o u done st (i ∷ is) ≡ run d n (done ++ t ∷ []) next is
+      run_emit t next s = rw (← open_is, ← count_is, run_one o u done st i is, own_none, count_none, s, open_none) refl
 
 -- behind the end nothing is wanted
 

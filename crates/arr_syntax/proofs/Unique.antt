@@ -1,7 +1,7 @@
 -- A text is one script at most, and never both a script and refused; its refusal is one.
 use Rattle.std.proofs.Common.{◌≡◌, ℕ, zero, suc, ℤ, ◌<◌, List, [], ◌∷◌, ◌++◌, refl, sym, ap, subst, arith, ◌∙◌, ◌⊎◌, inl, inr}
-use Rattle.arr_syntax.specs.declared.refusal.Place.{Place}
-use Rattle.arr_syntax.specs.declared.token.Item.{Item}
+use Rattle.arr_tree.specs.declared.refusal.Place.{Place}
+use Rattle.arr_tokens.specs.declared.token.Item.{Item}
 use Rattle.arr_syntax.specs.declared.state.Mode.{Mode}
 use Rattle.arr_syntax.specs.declared.state.Mode.TheVariants as mode
 use Rattle.arr_syntax.specs.declared.state.Node.{Node}
@@ -16,14 +16,14 @@ use Rattle.arr_syntax.specs.declared.state.State.{State}
 use Rattle.arr_syntax.specs.declared.state.State.TheVariants as state
 use Rattle.arr_syntax.specs.declared.state.Move.{Move}
 use Rattle.arr_syntax.specs.declared.state.Move.TheVariants as move
-use Rattle.arr_syntax.specs.declared.tree.Cut.{Cut}
-use Rattle.arr_syntax.specs.declared.tree.Expr.{Expr}
-use Rattle.arr_syntax.specs.declared.tree.Statement.{Statement}
-use Rattle.arr_syntax.specs.declared.refusal.Kind.{Kind}
-use Rattle.arr_syntax.specs.declared.refusal.Kind.TheVariants.{BadByte, NumberTooWide, NameTooLong, StatementTooLong, TooDeep, Unexpected}
-use Rattle.arr_syntax.specs.declared.refusal.Refusal.{Refusal}
-use Rattle.arr_syntax.specs.declared.refusal.ParseFault.{ParseFault}
-use Rattle.arr_syntax.specs.declared.refusal.ParseFault.TheVariants.{Refused, NoMemory}
+use Rattle.arr_tree.specs.declared.tree.Cut.{Cut}
+use Rattle.arr_tree.specs.declared.tree.Expr.{Expr}
+use Rattle.arr_tree.specs.declared.tree.Statement.{Statement}
+use Rattle.arr_tree.specs.declared.refusal.Kind.{Kind}
+use Rattle.arr_tree.specs.declared.refusal.Kind.TheVariants.{BadByte, NumberTooWide, NameTooLong, StatementTooLong, TooDeep, Unexpected}
+use Rattle.arr_tree.specs.declared.refusal.Refusal.{Refusal}
+use Rattle.arr_tree.specs.declared.refusal.ParseFault.{ParseFault}
+use Rattle.arr_tree.specs.declared.refusal.ParseFault.TheVariants.{Refused, NoMemory}
 use Rattle.arr_syntax.specs.Grammar as grammar
 use Rattle.arr_syntax.specs.Grammar.{Listed, Length, Stride, Slice, Ends, Level, Placed, Primary, ViewCall, Rest, Script, OneStatement}
 use Rattle.arr_syntax.specs.Machine.{step, with_tree, wanted, level_of}

@@ -1,101 +1,23 @@
 -- The grammar, by its cases. `X before tree after` says that the tokens of `before` up to `after` are an X that stands for the tree.
-use Rattle.std.specs.Prelude.{◌≡◌, ℕ, zero, suc, ℤ, pos, neg_ℤ, Bool, true, false, List, [], ◌∷◌, Option, Some, None}
-use Rattle.arr_syntax.specs.declared.refusal.Place.{Place}
-use Rattle.arr_syntax.specs.declared.token.Item.{Item}
-use Rattle.arr_syntax.specs.declared.token.Token.TheVariants as token
-use Rattle.arr_syntax.specs.declared.token.Sign.{Sign}
-use Rattle.arr_syntax.specs.declared.token.Sign.TheVariants as sign
-use Rattle.arr_syntax.specs.declared.token.Keyword.{Keyword}
-use Rattle.arr_syntax.specs.declared.token.Keyword.TheVariants as keyword
-use Rattle.arr_syntax.specs.declared.token.View.TheVariants.{Broadcast, Transpose, Reshape, Strided}
+use Rattle.std.specs.Prelude.{◌≡◌, ℕ, zero, suc, ℤ, Bool, true, false, List, [], ◌∷◌, Option, Some, None}
+use Rattle.arr_tree.specs.declared.refusal.Place.{Place}
+use Rattle.arr_tokens.specs.declared.token.Item.{Item}
+use Rattle.arr_tokens.specs.declared.token.Token.TheVariants as token
+use Rattle.arr_tokens.specs.declared.token.Sign.{Sign}
+use Rattle.arr_tokens.specs.declared.token.Sign.TheVariants as sign
+use Rattle.arr_tokens.specs.declared.token.Keyword.{Keyword}
+use Rattle.arr_tokens.specs.declared.token.Keyword.TheVariants as keyword
+use Rattle.arr_tokens.specs.declared.token.View.TheVariants.{Broadcast, Transpose, Reshape, Strided}
 use Rattle.arr_syntax.specs.declared.state.Mode.{Mode}
 use Rattle.arr_syntax.specs.declared.state.Mode.TheVariants as mode
-use Rattle.arr_syntax.specs.declared.tree.Code16.{Code16}
-use Rattle.arr_syntax.specs.declared.tree.Code16.TheVariants as code
-use Rattle.arr_syntax.specs.declared.tree.Type4.{Type4}
-use Rattle.arr_syntax.specs.declared.tree.Type4.TheVariants.{I64}
-use Rattle.arr_syntax.specs.declared.tree.Cut.{Cut}
-use Rattle.arr_syntax.specs.declared.tree.Lengths.{Lengths}
-use Rattle.arr_syntax.specs.declared.tree.Steps.{Steps}
-use Rattle.arr_syntax.specs.declared.tree.Word.{Word}
-use Rattle.arr_syntax.specs.declared.tree.Expr.{Expr}
-use Rattle.arr_syntax.specs.declared.tree.ExprForm.TheVariants as expr
-use Rattle.arr_syntax.specs.declared.tree.Form.TheVariants as form
-use Rattle.arr_syntax.specs.declared.tree.Statement.{Statement}
-
--- the trees, each with the place that it bears
-
-abbrev pub literal_at : Place → Bool → ℕ → Expr
-literal_at at negative size = record { at = at; form = expr.Literal negative size }
-
-abbrev pub word_at : Place → List ℕ → Word
-word_at at text = record { text = text; at = at }
-
-abbrev pub name_of : Word → Expr
-name_of w = record { at = w.at; form = expr.Name w }
-
-abbrev pub unary_at : Place → Code16 → Expr → Expr
-unary_at at c of = record { at = at; form = expr.Unary c of }
-
-abbrev pub binary_at : Place → Code16 → Expr → Expr → Expr
-binary_at at c left right = record { at = at; form = expr.Binary c left right }
-
-abbrev pub power_at : Place → Expr → ℕ → Expr
-power_at at of n = record { at = at; form = expr.Power of n }
-
-abbrev pub fold_at : Place → Code16 → Expr → ℕ → Place → Expr
-fold_at at c of axis axis_at = record { at = at; form = expr.Fold c of axis axis_at }
-
-abbrev pub cast_at : Place → Type4 → Expr → Expr
-cast_at at to of = record { at = at; form = expr.Cast to of }
-
-abbrev pub range_at : Place → ℕ → Place → Type4 → Expr
-range_at at count count_at to = record { at = at; form = expr.Range count count_at to }
-
-abbrev pub lengths_at : Place → List ℕ → Lengths
-lengths_at at list = record { at = at; list = list }
-
-abbrev pub steps_at : Place → List ℤ → Steps
-steps_at at list = record { at = at; list = list }
-
-abbrev pub full_at : Place → Lengths → Expr → Type4 → Expr
-full_at at shape literal to = record { at = at; form = expr.Full shape literal to }
-
-abbrev pub index_at : Place → Expr → List Cut → Expr
-index_at at of slices = record { at = at; form = expr.Index of slices }
-
-abbrev pub broadcast_at : Place → Expr → Lengths → Expr
-broadcast_at at of shape = record { at = at; form = expr.Broadcast of shape }
-
-abbrev pub transpose_at : Place → Expr → Expr
-transpose_at at of = record { at = at; form = expr.Transpose of }
-
-abbrev pub reshape_at : Place → Expr → Lengths → Expr
-reshape_at at of shape = record { at = at; form = expr.Reshape of shape }
-
-abbrev pub strided_at : Place → Expr → ℕ → Lengths → Steps → Expr
-strided_at at of start shape strides = record { at = at; form = expr.Strided of start shape strides }
-
-abbrev pub print_of : Expr → Statement
-print_of value = record { form = form.Print value }
-
-abbrev pub delete_of : Word → Statement
-delete_of name = record { form = form.Del name }
-
-abbrev pub flush_of : Statement
-flush_of = record { form = form.Flush }
-
-abbrev pub bind_of : Word → Expr → Statement
-bind_of name value = record { form = form.Bind name value }
-
-abbrev pub assign_of : Expr → Place → Expr → Statement
-assign_of target equals value = record { form = form.Assign target equals value }
-
-abbrev pub gather_of : Word → Place → Expr → Expr → Statement
-gather_of name at source index = record { form = form.Gather name at source index }
-
-abbrev pub scatter_of : Place → Expr → Expr → Expr → Statement
-scatter_of at target index values = record { form = form.Scatter at target index values }
+use Rattle.arr_tree.specs.declared.tree.Code16.{Code16}
+use Rattle.arr_tree.specs.declared.tree.Code16.TheVariants as code
+use Rattle.arr_tree.specs.declared.tree.Type4.{Type4}
+use Rattle.arr_tree.specs.declared.tree.Type4.TheVariants.{I64}
+use Rattle.arr_tree.specs.declared.tree.Cut.{Cut}
+use Rattle.arr_tree.specs.declared.tree.Expr.{Expr}
+use Rattle.arr_tree.specs.declared.tree.Statement.{Statement}
+use Rattle.arr_tree.specs.Trees.{literal_at, word_at, name_of, unary_at, binary_at, power_at, fold_at, cast_at, range_at, lengths_at, steps_at, full_at, index_at, broadcast_at, transpose_at, reshape_at, strided_at, print_of, delete_of, flush_of, bind_of, assign_of, gather_of, scatter_of, signed, cut}
 
 -- the level and the code of each binary sign that groups to the left
 abbrev pub operator : Sign → Option (ℕ × Code16)
@@ -137,10 +59,6 @@ IsNumber i n = i.token ≡ token.Number n
 
 -- literals and lists
 
-abbrev pub signed : Bool → ℕ → ℤ
-signed false n = pos n
-signed true n = neg_ℤ (pos n)
-
 -- [ "-" ] number
 pub data Literal : List Item → Place → Bool → ℕ → List Item → Type 0 where
   plain : {i : Item} {n : ℕ} {c : List Item} → IsNumber i n → Literal (i ∷ c) i.at false n c
@@ -171,9 +89,6 @@ pub data Bound : List Item → Option ℕ → List Item → Type 0 where
 pub data Step : List Item → Option ℤ → List Item → Type 0 where
   no_step : {c : List Item} → Step c None c
   one_step : {a c : List Item} {at : Place} {negative : Bool} {n : ℕ} → Literal a at negative n c → Step a (Some (signed negative n)) c
-
-abbrev pub cut : Option ℕ → Option ℕ → Option ℤ → Cut
-cut start stop step = record { start = start; stop = stop; step = step }
 
 -- [ number ] ":" [ number ] [ ":" [ literal ] ]
 pub data Slice : List Item → Cut → List Item → Type 0 where

@@ -1,6 +1,6 @@
 pub mod Grammar
+pub mod Filling
 pub mod Machine
 pub mod Limits
 pub mod Run
 pub mod Refused
-pub mod Tokens

@@ -1,9 +1,9 @@
 -- What the limits count.
 use Rattle.std.specs.Prelude.{ℕ, ◌+◌, ◌-◌, Bool, true, false, List, [], ◌∷◌}
-use Rattle.arr_syntax.specs.declared.token.Item.{Item}
-use Rattle.arr_syntax.specs.declared.token.Token.{Token}
-use Rattle.arr_syntax.specs.declared.token.Token.TheVariants as token
-use Rattle.arr_syntax.specs.declared.token.Sign.TheVariants as sign
+use Rattle.arr_tokens.specs.declared.token.Item.{Item}
+use Rattle.arr_tokens.specs.declared.token.Token.{Token}
+use Rattle.arr_tokens.specs.declared.token.Token.TheVariants as token
+use Rattle.arr_tokens.specs.declared.token.Sign.TheVariants as sign
 
 abbrev pub open_limit : ℕ
 open_limit = 64

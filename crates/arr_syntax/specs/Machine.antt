@@ -1,14 +1,14 @@
 -- What is still wanted while a script is read from left to right, and what one more token makes of it.
 use Rattle.std.specs.Prelude.{ℕ, pos, neg_ℤ, Bool, true, false, ◌&&◌, List, [], ◌∷◌, ◌++◌, Option, Some, None, eqb, nat_le, nat_lt, cond, if◌then◌else◌}
-use Rattle.arr_syntax.specs.declared.refusal.Place.{Place}
-use Rattle.arr_syntax.specs.declared.token.Item.{Item}
-use Rattle.arr_syntax.specs.declared.token.Token.{Token}
-use Rattle.arr_syntax.specs.declared.token.Token.TheVariants as token
-use Rattle.arr_syntax.specs.declared.token.Sign.{Sign}
-use Rattle.arr_syntax.specs.declared.token.Sign.TheVariants as sign
-use Rattle.arr_syntax.specs.declared.token.Keyword.TheVariants as keyword
-use Rattle.arr_syntax.specs.declared.token.View.{View}
-use Rattle.arr_syntax.specs.declared.token.View.TheVariants.{Broadcast, Transpose, Reshape, Strided}
+use Rattle.arr_tree.specs.declared.refusal.Place.{Place}
+use Rattle.arr_tokens.specs.declared.token.Item.{Item}
+use Rattle.arr_tokens.specs.declared.token.Token.{Token}
+use Rattle.arr_tokens.specs.declared.token.Token.TheVariants as token
+use Rattle.arr_tokens.specs.declared.token.Sign.{Sign}
+use Rattle.arr_tokens.specs.declared.token.Sign.TheVariants as sign
+use Rattle.arr_tokens.specs.declared.token.Keyword.TheVariants as keyword
+use Rattle.arr_tokens.specs.declared.token.View.{View}
+use Rattle.arr_tokens.specs.declared.token.View.TheVariants.{Broadcast, Transpose, Reshape, Strided}
 use Rattle.arr_syntax.specs.declared.state.Mode.{Mode}
 use Rattle.arr_syntax.specs.declared.state.Mode.TheVariants as mode
 use Rattle.arr_syntax.specs.declared.state.Rule.{Rule}
@@ -31,19 +31,22 @@ use Rattle.arr_syntax.specs.declared.state.State.TheVariants as state
 use Rattle.arr_syntax.specs.declared.state.Move.{Move}
 use Rattle.arr_syntax.specs.declared.state.Move.TheVariants as move
 use Rattle.arr_syntax.specs.declared.state.Filled.{Filled}
-use Rattle.arr_syntax.specs.declared.state.Filled.TheVariants as filled
-use Rattle.arr_syntax.specs.declared.tree.Code16.{Code16}
-use Rattle.arr_syntax.specs.declared.tree.Code16.TheVariants as code
-use Rattle.arr_syntax.specs.declared.tree.Type4.TheVariants.{I64}
-use Rattle.arr_syntax.specs.declared.tree.Cut.{Cut}
-use Rattle.arr_syntax.specs.declared.tree.Word.{Word}
-use Rattle.arr_syntax.specs.declared.tree.Expr.{Expr}
-use Rattle.arr_syntax.specs.declared.tree.ExprForm.{ExprForm}
-use Rattle.arr_syntax.specs.declared.tree.ExprForm.TheVariants as expr
-use Rattle.arr_syntax.specs.declared.tree.Form.{Form}
-use Rattle.arr_syntax.specs.declared.tree.Form.TheVariants as form
-use Rattle.arr_syntax.specs.declared.tree.Statement.{Statement}
-use Rattle.arr_syntax.specs.Grammar.{literal_at, word_at, name_of, lengths_at, steps_at, delete_of, flush_of, operator, comparison, cut}
+use Rattle.arr_syntax.specs.declared.state.Filled.TheVariants as bare
+use Rattle.arr_syntax.specs.Filling.{Filling, with_fields}
+use Rattle.arr_syntax.specs.Filling as filled
+use Rattle.arr_tree.specs.declared.tree.Code16.{Code16}
+use Rattle.arr_tree.specs.declared.tree.Code16.TheVariants as code
+use Rattle.arr_tree.specs.declared.tree.Type4.TheVariants.{I64}
+use Rattle.arr_tree.specs.declared.tree.Cut.{Cut}
+use Rattle.arr_tree.specs.declared.tree.Word.{Word}
+use Rattle.arr_tree.specs.declared.tree.Expr.{Expr}
+use Rattle.arr_tree.specs.declared.tree.ExprForm.{ExprForm}
+use Rattle.arr_tree.specs.declared.tree.ExprForm.TheVariants as expr
+use Rattle.arr_tree.specs.declared.tree.Form.{Form}
+use Rattle.arr_tree.specs.declared.tree.Form.TheVariants as form
+use Rattle.arr_tree.specs.declared.tree.Statement.{Statement}
+use Rattle.arr_tree.specs.Trees.{literal_at, word_at, name_of, lengths_at, steps_at, delete_of, flush_of, cut}
+use Rattle.arr_syntax.specs.Grammar.{operator, comparison}
 
 -- what was read of a row
 
@@ -90,12 +93,12 @@ whole (field.AfterStep c) = Some c
 whole _ = None
 
 -- behind a slice
-abbrev pub fill_behind : Token → Fields → Filled
-fill_behind (token.Sign sign.Comma) f = filled.Turns field.Start f
-fill_behind (token.Sign sign.CloseIndex) f = filled.Over f
-fill_behind _ f = filled.Stuck
+abbrev pub behind_cut : Token → Filled
+behind_cut (token.Sign sign.Comma) = bare.Turns field.Start
+behind_cut (token.Sign sign.CloseIndex) = bare.Over
+behind_cut _ = bare.Stuck
 
-abbrev pub fill_number : Field → ℕ → Place → Fields → Filled
+abbrev pub fill_number : Field → ℕ → Place → Fields → Filling
 fill_number field.Number n at f = filled.Over (record f { number = n; number_at = at })
 fill_number field.Literal n at f = filled.Over (with_tree f (literal_at at false n))
 fill_number (field.Size minus_at) n at f = filled.Over (with_tree f (literal_at minus_at true n))
@@ -104,7 +107,7 @@ fill_number field.Stride n at f = filled.Turns field.MoreStrides (record f { str
 fill_number field.NegativeStride n at f = filled.Turns field.MoreStrides (record f { strides = steps_at f.strides.at (f.strides.list ++ neg_ℤ (pos n) ∷ []) })
 fill_number _ n at f = filled.Stuck
 
-abbrev pub fill_sign : Field → Sign → Place → Fields → Filled
+abbrev pub fill_sign : Field → Sign → Place → Fields → Filling
 fill_sign field.Open sign.Open at f = filled.Over f
 fill_sign field.Close sign.Close at f = filled.Over f
 fill_sign field.Comma sign.Comma at f = filled.Over f
@@ -116,22 +119,22 @@ fill_sign field.Strides sign.OpenIndex at f = filled.Turns field.Stride (record 
 fill_sign field.MoreStrides sign.CloseIndex at f = filled.Over f
 fill_sign _ x at f = filled.Stuck
 
-abbrev pub fill_kept : Field → Token → Place → Fields → Filled
+abbrev pub fill_kept : Field → Token → Place → Fields → Filling
 fill_kept p (token.Number n) at f = fill_number p n at f
 fill_kept p (token.Sign x) at f = fill_sign p x at f
 fill_kept field.LastType (token.Keyword (keyword.Type to)) at f = filled.Turns field.Close (record f { to = to })
 fill_kept _ t at f = filled.Stuck
 
-abbrev pub fill_end : Option Cut → Field → Token → Place → Fields → Filled
-fill_end (Some c) p t at f = fill_behind t (with_cut f c)
+abbrev pub fill_end : Option Cut → Field → Token → Place → Fields → Filling
+fill_end (Some c) p t at f = with_fields (behind_cut t) (with_cut f c)
 fill_end None p t at f = fill_kept p t at f
 
-abbrev pub fill_next : Option Field → Field → Token → Place → Fields → Filled
+abbrev pub fill_next : Option Field → Field → Token → Place → Fields → Filling
 fill_next (Some q) p t at f = filled.Turns q f
 fill_next None p t at f = fill_end (whole p) p t at f
 
 -- what a token makes of a field
-abbrev pub fill : Field → Token → Place → Fields → Filled
+abbrev pub fill : Field → Token → Place → Fields → Filling
 fill p t at f = fill_next (turns p t at) p t at f
 
 -- the rows
@@ -256,7 +259,7 @@ resume n at (p ∷ ps) f s = move.On (state.Fill p (row n at ps f) s)
 resume (node.Tree n) at [] f s = move.On (state.Have (level_of n) (tree_of n at f) s)
 resume (node.Statement h) at [] f s = move.Emit (stated h at f) state.Ended
 
-abbrev pub onward : Node → Place → List Part → List Frame → Filled → Move
+abbrev pub onward : Node → Place → List Part → List Frame → Filling → Move
 onward n at ps s filled.Stuck = move.Stuck
 onward n at ps s (filled.Over f) = resume n at ps f s
 onward n at ps s (filled.Turns p f) = move.On (state.Fill (part.Field p) (row n at ps f) s)

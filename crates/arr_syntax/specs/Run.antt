@@ -1,18 +1,18 @@
 -- A script read token by token under the limits.
-use Rattle.std.specs.Prelude.{ℕ, Bool, true, false, not, ◌&&◌, ◌≡◌, List, [], ◌∷◌, ◌++◌, Option, Some, None, nat_le, if◌then◌else◌, Result, Ok, Err}
-use Rattle.arr_syntax.specs.declared.token.Item.{Item}
-use Rattle.arr_syntax.specs.declared.token.Token.{Token}
-use Rattle.arr_syntax.specs.declared.token.Token.TheVariants as token
-use Rattle.arr_syntax.specs.declared.refusal.Kind.{Kind}
-use Rattle.arr_syntax.specs.declared.refusal.Kind.TheVariants.{BadByte, NumberTooWide, NameTooLong, StatementTooLong, TooDeep, Unexpected}
-use Rattle.arr_syntax.specs.declared.refusal.Refusal.{Refusal}
-use Rattle.arr_syntax.specs.declared.refusal.ParseFault.{ParseFault}
-use Rattle.arr_syntax.specs.declared.refusal.ParseFault.TheVariants.{Refused, NoMemory}
+use Rattle.std.specs.Prelude.{ℕ, Bool, true, false, ◌&&◌, ◌≡◌, List, [], ◌∷◌, ◌++◌, Option, Some, None, nat_le, if◌then◌else◌, Result, Ok, Err}
+use Rattle.arr_tokens.specs.declared.token.Item.{Item}
+use Rattle.arr_tokens.specs.declared.token.Token.{Token}
+use Rattle.arr_tokens.specs.declared.token.Token.TheVariants as token
+use Rattle.arr_tree.specs.declared.refusal.Kind.{Kind}
+use Rattle.arr_tree.specs.declared.refusal.Kind.TheVariants.{BadByte, NumberTooWide, NameTooLong, StatementTooLong, TooDeep, Unexpected}
+use Rattle.arr_tree.specs.declared.refusal.Refusal.{Refusal}
+use Rattle.arr_tree.specs.declared.refusal.ParseFault.{ParseFault}
+use Rattle.arr_tree.specs.declared.refusal.ParseFault.TheVariants.{Refused, NoMemory}
 use Rattle.arr_syntax.specs.declared.state.State.{State}
 use Rattle.arr_syntax.specs.declared.state.State.TheVariants as state
 use Rattle.arr_syntax.specs.declared.state.Move.{Move}
 use Rattle.arr_syntax.specs.declared.state.Move.TheVariants as move
-use Rattle.arr_syntax.specs.declared.tree.Statement.{Statement}
+use Rattle.arr_tree.specs.declared.tree.Statement.{Statement}
 use Rattle.arr_syntax.specs.Limits.{open_limit, length_limit, is_counted, is_opening, open_after, used_after}
 use Rattle.arr_syntax.specs.Machine.{step}
 
@@ -36,6 +36,14 @@ is_stuck _ = false
 abbrev pub unless : {A : Type 0} → Option Kind → Result A Kind → Result A Kind
 unless (Some k) r = Err k
 unless None r = r
+
+-- the tokens of the statement behind a token, or what it is refused for whatever the grammar says
+abbrev pub counted : ℕ → Token → Result ℕ Kind
+counted used t = unless (own_fault t) (unless (count_fault used t) (Ok (used_after used t)))
+
+-- the brackets that are open behind a token
+abbrev pub opened : ℕ → Token → Result ℕ Kind
+opened open_now t = unless (open_fault open_now t) (Ok (open_after open_now t))
 
 abbrev pub expected : Move → Option Kind → Result Move Kind
 expected move.Stuck k = Err Unexpected
@@ -68,20 +76,6 @@ unfoldable pub run : ℕ → ℕ → List Statement → State → List Item → 
 run open_now used done st [] = Ok (outcome st done)
 run open_now used done st (i ∷ is) =
     judged i (verdict open_now used i.token (step st i)) done (λ more next. run (open_after open_now i.token) (used_after used i.token) more next is)
-
-abbrev pub is_end : Token → Bool
-is_end token.End = true
-is_end _ = false
-
--- the tokens end in an end, and have no other
-abbrev pub is_text : List Item → Bool
-is_text [] = false
-is_text (i ∷ []) = is_end i.token
-is_text (i ∷ j ∷ is) = not (is_end i.token) && is_text (j ∷ is)
-
--- nothing comes behind the end
-abbrev pub behind : Item → List Item → List Item
-behind i is = if is_end i.token then [] else is
 
 -- The fault is the refusal that the reading gives, or want of memory.
 abbrev pub Refuses : ParseFault → Reading → Type 0

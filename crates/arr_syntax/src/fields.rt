@@ -1,14 +1,17 @@
 ghost use Rattle.std.specs.Prelude.{◌≡◌, IfOk, None};
-ghost use Rattle.arr_syntax.specs.Grammar.{cut};
-ghost use Rattle.arr_syntax.specs.Machine.{fresh, and_tree, with_tree, turns, whole, fill_behind, fill_number, fill_sign, fill};
+ghost use Rattle.arr_tree.specs.Trees.{cut};
+ghost use Rattle.arr_syntax.specs.Filling.{with_fields};
+ghost use Rattle.arr_syntax.specs.Machine.{fresh, and_tree, with_tree, turns, whole, behind_cut, fill_number, fill_sign, fill};
 
 use crate::node::literal;
-use crate::refusal::Place;
 use crate::state::{Field, Fields, Filled, Trees};
-use crate::token::{Keyword, Sign, Token};
-use crate::tree::{Cut, Expr, Lengths, Steps, Type4};
+use arr_tokens::{Keyword, Sign, Token};
+use arr_tree::{Cut, Expr, Lengths, Place, Steps, Type4};
 use sqlite_items::{Boxed, Items};
 use std::alloc::{AllocError, Global};
+
+/// What a token makes of a field, or want of memory.
+type Fill = Result<Filled, AllocError>;
 
 impl Trees {
     /// These trees and one more.
@@ -47,115 +50,102 @@ impl Fields {
         }
     }
 
-    /// These and one more tree.
-    pub fn with(mut self, tree: Boxed<Expr>) -> Fields
-        ensures { result ≡ with_tree self tree }
+    /// Adds one more tree.
+    pub fn add(&mut self, tree: Boxed<Expr>)
+        ensures { self.new ≡ with_tree self.old tree }
     {
         let trees = std::mem::replace(&mut self.trees, Trees::None);
         self.trees = trees.and(tree);
-        self
     }
 
-    fn number(
-        mut self,
-        alloc: Global,
-        field: Field,
-        n: u64,
-        at: Place,
-    ) -> Result<Filled, AllocError>
-        ensures { IfOk result (λ x. x ≡ fill_number field n at self) }
+    fn number(&mut self, alloc: Global, field: Field, n: u64, at: Place) -> Fill
+        ensures { IfOk result (λ x. with_fields x self.new ≡ fill_number field n at self.old) }
     {
         match field {
             Field::Number => {
                 self.number = n;
                 self.number_at = at;
-                Ok(Filled::Over(self))
+                Ok(Filled::Over)
             }
             Field::Literal => {
-                let tree = literal(alloc, at, false, n)?;
-                Ok(Filled::Over(self.with(tree)))
+                self.add(literal(alloc, at, false, n)?);
+                Ok(Filled::Over)
             }
             Field::Size(minus_at) => {
-                let tree = literal(alloc, minus_at, true, n)?;
-                Ok(Filled::Over(self.with(tree)))
+                self.add(literal(alloc, minus_at, true, n)?);
+                Ok(Filled::Over)
             }
             Field::Length => {
                 self.shape.list.push(n)?;
-                Ok(Filled::Turns(Field::MoreLengths, self))
+                Ok(Filled::Turns(Field::MoreLengths))
             }
             Field::Stride => {
                 self.strides.list.push(i128::from(n))?;
-                Ok(Filled::Turns(Field::MoreStrides, self))
+                Ok(Filled::Turns(Field::MoreStrides))
             }
             Field::NegativeStride => {
                 self.strides.list.push(-i128::from(n))?;
-                Ok(Filled::Turns(Field::MoreStrides, self))
+                Ok(Filled::Turns(Field::MoreStrides))
             }
             _ => Ok(Filled::Stuck),
         }
     }
 
-    fn sign(mut self, field: Field, sign: Sign, at: Place) -> Filled
-        ensures { result ≡ fill_sign field sign at self }
+    fn sign(&mut self, field: Field, sign: Sign, at: Place) -> Filled
+        ensures { with_fields result self.new ≡ fill_sign field sign at self.old }
     {
         match (field, sign) {
             (Field::Open, Sign::Open)
             | (Field::Close | Field::TypeOrClose, Sign::Close)
             | (Field::Comma, Sign::Comma)
-            | (Field::MoreLengths | Field::MoreStrides, Sign::CloseIndex) => Filled::Over(self),
+            | (Field::MoreLengths | Field::MoreStrides, Sign::CloseIndex) => Filled::Over,
             (Field::Equals, Sign::Assign) => {
                 self.equals = at;
-                Filled::Over(self)
+                Filled::Over
             }
             (Field::Shape, Sign::OpenIndex) => {
                 self.shape.at = at;
-                Filled::Turns(Field::Length, self)
+                Filled::Turns(Field::Length)
             }
             (Field::Strides, Sign::OpenIndex) => {
                 self.strides.at = at;
-                Filled::Turns(Field::Stride, self)
+                Filled::Turns(Field::Stride)
             }
-            _ => Filled::Stuck,
-        }
-    }
-
-    /// Behind a slice.
-    fn behind(self, token: Token) -> Filled
-        ensures { result ≡ fill_behind token self }
-    {
-        match token {
-            Token::Sign(Sign::Comma) => Filled::Turns(Field::Start, self),
-            Token::Sign(Sign::CloseIndex) => Filled::Over(self),
             _ => Filled::Stuck,
         }
     }
 
     /// What a token makes of these where this field is wanted.
-    pub fn fill(
-        mut self,
-        alloc: Global,
-        field: Field,
-        token: Token,
-        at: Place,
-    ) -> Result<Filled, AllocError>
-        ensures { IfOk result (λ x. x ≡ fill field token at self) }
+    pub fn fill(&mut self, alloc: Global, field: Field, token: &Token, at: Place) -> Fill
+        ensures { IfOk result (λ x. with_fields x self.new ≡ fill field token.now at self.old) }
     {
-        if let Some(next) = turns(field, &token, at) {
-            return Ok(Filled::Turns(next, self));
+        if let Some(next) = turns(field, token, at) {
+            return Ok(Filled::Turns(next));
         }
         if let Some(cut) = whole(field) {
             self.cuts.push(cut)?;
-            return Ok(self.behind(token));
+            return Ok(behind(token));
         }
         match (field, token) {
-            (field, Token::Number(n)) => self.number(alloc, field, n, at),
-            (field, Token::Sign(sign)) => Ok(self.sign(field, sign, at)),
+            (field, Token::Number(n)) => self.number(alloc, field, *n, at),
+            (field, Token::Sign(sign)) => Ok(self.sign(field, *sign, at)),
             (Field::LastType, Token::Keyword(Keyword::Type(to))) => {
-                self.to = to;
-                Ok(Filled::Turns(Field::Close, self))
+                self.to = *to;
+                Ok(Filled::Turns(Field::Close))
             }
             _ => Ok(Filled::Stuck),
         }
+    }
+}
+
+/// What a token makes of the end of a slice.
+fn behind(token: &Token) -> Filled
+    ensures { result ≡ behind_cut token.now }
+{
+    match token {
+        Token::Sign(Sign::Comma) => Filled::Turns(Field::Start),
+        Token::Sign(Sign::CloseIndex) => Filled::Over,
+        _ => Filled::Stuck,
     }
 }
 

@@ -1,14 +1,16 @@
 ghost use Rattle.std.specs.Prelude.{◌≡◌, IfOk};
-ghost use Rattle.arr_syntax.specs.Grammar.{literal_at};
+ghost use Rattle.arr_tree.specs.Trees.{literal_at};
 ghost use Rattle.arr_syntax.specs.Machine.{array_row, rule_row, row_of, level_of, wanted_in, code_of, form_of, form_of_one, view_form, tree_of, head_form, stated};
 
 use crate::parts::Parts;
-use crate::refusal::Place;
 use crate::state::{Field, Fields, Head, Mode, Node, Part, Rule, Trees};
-use crate::token::View;
-use crate::tree::{Code16, Expr, ExprForm, Form, Statement};
+use arr_tokens::View;
+use arr_tree::{Code16, Expr, ExprForm, Form, Place, Statement};
 use sqlite_items::Boxed;
 use std::alloc::{AllocError, Global};
+
+/// A box, or want of memory.
+type Made<T> = Result<Boxed<T>, AllocError>;
 
 const OPEN: Part = Part::Field(Field::Open);
 
@@ -156,12 +158,7 @@ impl Rule {
     }
 
     /// The expression whose row is read.
-    pub fn build(
-        self,
-        alloc: Global,
-        at: Place,
-        mut fields: Fields,
-    ) -> Result<Boxed<Expr>, AllocError>
+    pub fn build(self, alloc: Global, at: Place, mut fields: Fields) -> Made<Expr>
         ensures { IfOk result (λ t. t ≡ tree_of self at fields) }
     {
         match (self, std::mem::replace(&mut fields.trees, Trees::None)) {
@@ -226,12 +223,7 @@ impl Head {
     }
 
     /// The statement whose row is read.
-    pub fn build(
-        self,
-        alloc: Global,
-        at: Place,
-        fields: Fields,
-    ) -> Result<Boxed<Statement>, AllocError>
+    pub fn build(self, alloc: Global, at: Place, fields: Fields) -> Made<Statement>
         ensures { IfOk result (λ s. s ≡ stated self at fields) }
     {
         statement(alloc, self.form(at, fields.equals, fields.trees))
@@ -268,26 +260,21 @@ impl Node {
 }
 
 /// A tree in a box of its own.
-pub fn tree(alloc: Global, at: Place, form: ExprForm) -> Result<Boxed<Expr>, AllocError>
+pub fn tree(alloc: Global, at: Place, form: ExprForm) -> Made<Expr>
     ensures { IfOk result (λ t. t ≡ record { at = at; form = form }) }
 {
     Boxed::new(alloc, Expr { at, form })
 }
 
 /// A literal.
-pub fn literal(
-    alloc: Global,
-    at: Place,
-    negative: bool,
-    size: u64,
-) -> Result<Boxed<Expr>, AllocError>
+pub fn literal(alloc: Global, at: Place, negative: bool, size: u64) -> Made<Expr>
     ensures { IfOk result (λ t. t ≡ literal_at at negative size) }
 {
     tree(alloc, at, ExprForm::Literal { negative, size })
 }
 
 /// A statement in a box of its own.
-pub fn statement(alloc: Global, form: Form) -> Result<Boxed<Statement>, AllocError>
+pub fn statement(alloc: Global, form: Form) -> Made<Statement>
     ensures { IfOk result (λ s. s ≡ record { form = form }) }
 {
     Boxed::new(alloc, Statement { form })

@@ -1,46 +1,47 @@
-ghost use Rattle.std.specs.Prelude.{◌≡◌, [], ◌≤◌, length, Some, None, Ok, List, IfOk, IfErr, MatchResult};
-ghost use Rattle.arr_syntax.specs.declared.refusal.Refusal.{Refusal};
-ghost use Rattle.arr_syntax.specs.declared.tree.Statement.{Statement};
+ghost use Rattle.std.specs.Prelude.{◌≡◌, ◌≤◌, length, List, IfOk, IfErr, MatchResult};
+ghost use Rattle.arr_tree.specs.declared.refusal.Refusal.{Refusal};
+ghost use Rattle.arr_tree.specs.declared.tree.Statement.{Statement};
+ghost use Rattle.arr_tokens.specs.Tokens.{tokens};
 ghost use Rattle.arr_syntax.specs.Refused.{IsRefused, IsScript, IfRefused};
-ghost use Rattle.arr_syntax.specs.Run.{run, Refuses};
-ghost use Rattle.arr_syntax.specs.Tokens.{tokens};
 
-use crate::reader::{Reader, is_end};
-use crate::refusal::{ParseFault, Place};
+use crate::reader::Reader;
 use crate::state::State;
-use crate::text::Text;
-use crate::tree::{Script, Statement};
+use arr_tokens::Text;
+use arr_tree::{ParseFault, Place, Script, Statement};
 use sqlite_items::Items;
 use std::alloc::Global;
 
-/// The statements of a text, token by token.
+/// The statements of a text, token by token, or its refusal.
 fn statements(alloc: Global, bytes: &[u8]) -> Result<Items<Statement>, ParseFault>
     requires { length bytes.now ≤ 1048576 }
-    ensures { MatchResult result (λ ss. run 0 0 [] State.Start (tokens bytes.now) ≡ Ok (Some ss)) (λ e. Refuses e (run 0 0 [] State.Start (tokens bytes.now))) }
+    ensures { MatchResult result (IsScript (tokens bytes.now)) (λ e. IfRefused e (IsRefused (tokens bytes.now))) }
 {
     let mut text = Text {
         rest: bytes,
         at: Place { line: 1, column: 1 },
     };
-    let mut reader = Reader::new(alloc);
+    let mut reader = Reader {
+        alloc,
+        statements: Items::new(alloc),
+        depth: 0,
+        used: 0,
+    };
+    let mut state = State::Start;
     'tokens: loop {
         let Ok(item) = text.next(alloc) else {
+            drop(state);
             return Err(ParseFault::NoMemory);
         };
-        let is_last = is_end(&item.token);
-        reader = reader.read(item)?;
+        let is_last = item.token.is_end();
+        state = match reader.read(state, item) {
+            Ok(next) => next,
+            Err(fault) => return Err(fault),
+        };
         if is_last {
+            drop(state);
             return Ok(reader.statements);
         }
     }
-}
-
-/// The statements of a text, or its refusal.
-fn read(alloc: Global, bytes: &[u8]) -> Result<Items<Statement>, ParseFault>
-    requires { length bytes.now ≤ 1048576 }
-    ensures { MatchResult result (IsScript (tokens bytes.now)) (λ e. IfRefused e (IsRefused (tokens bytes.now))) }
-{
-    statements(alloc, bytes)
 }
 
 /// The script that a text of bytes spells.
@@ -56,7 +57,7 @@ pub fn parse(alloc: Global, bytes: &[u8]) -> Result<Script, ParseFault>
     ensures script { (ss : List Statement) → IsScript (tokens bytes.now) ss → MatchResult result (λ v. v.statements ≡ ss) (λ e. e ≡ ParseFault.NoMemory) }
     ensures refused { (r : Refusal) → IsRefused (tokens bytes.now) r → MatchResult result (λ v. ⊥) (λ e. IfRefused e (λ q. q ≡ r)) }
 {
-    match read(alloc, bytes) {
+    match statements(alloc, bytes) {
         Ok(statements) => Ok(Script { statements }),
         Err(fault) => Err(fault),
     }

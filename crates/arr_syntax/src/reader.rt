@@ -1,14 +1,12 @@
-ghost use Rattle.std.specs.Prelude.{◌≡◌, ◌∷◌, ◌++◌, [], ℕ, ◌<◌, ◌≤◌, Some, None, List, Option, MatchResult, IfOk, true, false};
-ghost use Rattle.arr_syntax.specs.declared.token.Item.{Item};
-ghost use Rattle.arr_syntax.specs.Limits.{open_after, used_after};
-ghost use Rattle.arr_syntax.specs.Run.{run, own_fault, count_fault, open_fault, is_end, is_stuck, Refuses};
+ghost use Rattle.std.specs.Prelude.{◌≡◌, ◌∷◌, ℕ, List, Ok, Err, MatchResult, IfOk};
+ghost use Rattle.arr_tokens.specs.declared.token.Item.{Item};
+ghost use Rattle.arr_syntax.specs.Run.{run, counted, opened, is_stuck, Refuses};
 
-use crate::refusal::{Kind, ParseFault, Refusal};
 use crate::state::{Move, State};
 use crate::step::step;
-use crate::token::{Item, Sign, Token};
-use crate::tree::Statement;
-use sqlite_items::{Boxed, Items};
+use arr_tokens::{Item, Sign, Token};
+use arr_tree::{Kind, ParseFault, Refusal, Statement};
+use sqlite_items::Items;
 use std::alloc::Global;
 
 /// How many brackets may be open.
@@ -17,100 +15,48 @@ const OPEN_LIMIT: u32 = 64;
 /// How many tokens a statement may have.
 const LENGTH_LIMIT: u32 = 1024;
 
-pub fn is_end(token: &Token) -> bool
-    ensures { result ≡ is_end token.now }
+/// The tokens of the statement behind this one, or what it is refused for whatever the grammar says.
+fn counted(used: u32, token: &Token) -> Result<u32, Kind>
+    ensures { result ≡ counted used token.now }
 {
     match token {
-        Token::End => true,
-        _ => false,
+        Token::Bad => Err(Kind::BadByte),
+        Token::Wide => Err(Kind::NumberTooWide),
+        Token::Long => Err(Kind::NameTooLong),
+        Token::Line => Ok(0),
+        Token::End => Ok(used),
+        _ if used >= LENGTH_LIMIT => Err(Kind::StatementTooLong),
+        _ => Ok(used + 1),
     }
 }
 
-/// What a token is refused for whatever stands before it.
-fn own_fault(token: &Token) -> Option<Kind>
-    ensures { result ≡ own_fault token.now }
+/// The brackets that are open behind a token, or that it opens one too many.
+fn opened(depth: u32, token: &Token) -> Result<u32, Kind>
+    ensures { result ≡ opened depth token.now }
 {
     match token {
-        Token::Bad => Some(Kind::BadByte),
-        Token::Wide => Some(Kind::NumberTooWide),
-        Token::Long => Some(Kind::NameTooLong),
-        _ => None,
-    }
-}
-
-fn count_fault(used: u32, token: &Token) -> Option<Kind>
-    ensures { result ≡ count_fault used token.now }
-{
-    match token {
-        Token::Line | Token::End => None,
-        _ if used >= LENGTH_LIMIT => Some(Kind::StatementTooLong),
-        _ => None,
-    }
-}
-
-fn open_fault(depth: u32, token: &Token) -> Option<Kind>
-    ensures { result ≡ open_fault depth token.now }
-{
-    match token {
-        Token::Sign(Sign::Open | Sign::OpenIndex) if depth >= OPEN_LIMIT => Some(Kind::TooDeep),
-        _ => None,
-    }
-}
-
-fn open_behind(depth: u32, token: &Token) -> u32
-    requires { open_fault depth token.now ≡ None }
-    ensures { result ≡ open_after depth token.now }
-{
-    match token {
-        Token::Sign(Sign::Open | Sign::OpenIndex) => depth + 1,
-        Token::Sign(Sign::Close | Sign::CloseIndex) => depth.saturating_sub(1),
-        _ => depth,
-    }
-}
-
-fn used_behind(used: u32, token: &Token) -> u32
-    requires { count_fault used token.now ≡ None }
-    ensures { result ≡ used_after used token.now }
-{
-    match token {
-        Token::Line => 0,
-        Token::End => used,
-        _ => used + 1,
+        Token::Sign(Sign::Open | Sign::OpenIndex) if depth >= OPEN_LIMIT => Err(Kind::TooDeep),
+        Token::Sign(Sign::Open | Sign::OpenIndex) => Ok(depth + 1),
+        Token::Sign(Sign::Close | Sign::CloseIndex) => Ok(depth.saturating_sub(1)),
+        _ => Ok(depth),
     }
 }
 
 impl Move {
     /// Whether the grammar has no place for the token.
-    fn is_stuck(self) -> bool
-        ensures { result ≡ is_stuck self }
+    fn is_stuck(&self) -> bool
+        ensures { result ≡ is_stuck self.now }
     {
-        match self {
-            Move::Stuck => true,
-            Move::On(_) | Move::Emit(..) => false,
-        }
+        matches!(self, Move::Stuck)
     }
 }
 
-/// The statements, and one more behind them.
-fn with(
-    mut statements: Items<Statement>,
-    statement: Boxed<Statement>,
-) -> Result<Items<Statement>, ParseFault>
-    ensures { MatchResult result (λ ss. ss ≡ statements ++ statement ∷ []) (λ e. e ≡ ParseFault.NoMemory) }
-{
-    match statements.push(statement.into_inner()) {
-        Ok(()) => Ok(statements),
-        Err(_) => Err(ParseFault::NoMemory),
-    }
-}
-
-/// The reading of a script up to one of its tokens.
+/// What was read of a script up to one of its tokens, but for the state there.
 #[derive(Drop)]
 pub struct Reader {
     pub alloc: Global,
     /// The statements that are whole.
     pub statements: Items<Statement>,
-    pub state: State,
     /// The brackets that are open.
     pub depth: u32,
     /// The tokens of this statement.
@@ -118,97 +64,60 @@ pub struct Reader {
 }
 
 impl Reader {
-    /// The reading that begins.
-    pub fn new(alloc: Global) -> Reader
-        ensures statements { result.statements ≡ [] }
-        ensures state { result.state ≡ State.Start }
-        ensures depth { result.depth ≡ 0 }
-        ensures used { result.used ≡ 0 }
-    {
-        Reader {
-            alloc,
-            statements: Items::new(alloc),
-            state: State::Start,
-            depth: 0,
-            used: 0,
-        }
-    }
-
     /// The fault of a bracket that opens too deep: the grammar has no place for it, or the depth.
-    fn too_deep(self, item: Item, kind: Kind) -> ParseFault
-        requires own { own_fault item.token ≡ None }
-        requires counted { count_fault self.used item.token ≡ None }
-        requires deep { open_fault self.depth item.token ≡ Some kind }
-        ensures { (is : List Item) → Refuses result (run self.depth self.used self.statements self.state (item ∷ is)) }
+    fn too_deep(&self, state: State, item: Item, kind: Kind) -> ParseFault
+        requires counted { (n : ℕ) × (Ok n ≡ counted self.now.used item.token) }
+        requires deep { Err kind ≡ opened self.now.depth item.token }
+        ensures { (is : List Item) → Refuses result (run self.now.depth self.now.used self.now.statements state (item ∷ is)) }
     {
         let at = item.at;
-        let Ok(moved) = step(self.alloc, self.state, item) else {
+        let Ok(moved) = step(self.alloc, state, item) else {
             return ParseFault::NoMemory;
         };
-        if moved.is_stuck() {
+        let is_stuck = moved.is_stuck();
+        drop(moved);
+        if is_stuck {
             let kind = Kind::Unexpected;
             return ParseFault::Refused(Refusal { at, kind });
         }
         ParseFault::Refused(Refusal { at, kind })
     }
 
-    /// The reading behind a token that meets the limits.
-    fn advance(self, item: Item) -> Result<Reader, ParseFault>
-        requires own { own_fault item.token ≡ None }
-        requires counted { count_fault self.used item.token ≡ None }
-        requires deep { open_fault self.depth item.token ≡ None }
+    /// The state behind the next token, or the refusal of that token.
+    pub fn read(&mut self, state: State, item: Item) -> Result<State, ParseFault>
         ensures reads { (is : List Item) → MatchResult result
-            (λ next. run self.depth self.used self.statements self.state (item ∷ is) ≡ run next.depth next.used next.statements next.state is)
-            (λ e. Refuses e (run self.depth self.used self.statements self.state (item ∷ is))) }
-        ensures last { IfOk result (λ next. item.token ≡ Token.End → next.state ≡ State.Finished) }
+            (λ next. run self.old.depth self.old.used self.old.statements state (item ∷ is) ≡ run self.new.depth self.new.used self.new.statements next is)
+            (λ e. Refuses e (run self.old.depth self.old.used self.old.statements state (item ∷ is))) }
+        ensures last { IfOk result (λ next. item.token ≡ Token.End → next ≡ State.Finished) }
     {
         let at = item.at;
-        let alloc = self.alloc;
-        let statements = self.statements;
-        let depth = open_behind(self.depth, &item.token);
-        let used = used_behind(self.used, &item.token);
-        let Ok(moved) = step(alloc, self.state, item) else {
-            return Err(ParseFault::NoMemory);
+        let used = match counted(self.used, &item.token) {
+            Ok(used) => used,
+            Err(kind) => {
+                drop(state);
+                return Err(ParseFault::Refused(Refusal { at, kind }));
+            }
         };
-        match moved {
-            Move::Stuck => {
+        let depth = match opened(self.depth, &item.token) {
+            Ok(depth) => depth,
+            Err(kind) => return Err(self.too_deep(state, item, kind)),
+        };
+        self.used = used;
+        self.depth = depth;
+        match step(self.alloc, state, item) {
+            Ok(Move::Stuck) => {
                 let kind = Kind::Unexpected;
                 Err(ParseFault::Refused(Refusal { at, kind }))
             }
-            Move::On(state) => Ok(Reader {
-                alloc,
-                statements,
-                state,
-                depth,
-                used,
-            }),
-            Move::Emit(statement, state) => Ok(Reader {
-                alloc,
-                statements: with(statements, statement)?,
-                state,
-                depth,
-                used,
-            }),
+            Ok(Move::On(state)) => Ok(state),
+            Ok(Move::Emit(statement, state)) => match self.statements.push(statement.into_inner()) {
+                Ok(()) => Ok(state),
+                Err(_) => {
+                    drop(state);
+                    Err(ParseFault::NoMemory)
+                }
+            },
+            Err(_) => Err(ParseFault::NoMemory),
         }
-    }
-
-    /// The reading behind the next token, or the refusal of that token.
-    pub fn read(self, item: Item) -> Result<Reader, ParseFault>
-        ensures reads { (is : List Item) → MatchResult result
-            (λ next. run self.depth self.used self.statements self.state (item ∷ is) ≡ run next.depth next.used next.statements next.state is)
-            (λ e. Refuses e (run self.depth self.used self.statements self.state (item ∷ is))) }
-        ensures last { IfOk result (λ next. item.token ≡ Token.End → next.state ≡ State.Finished) }
-    {
-        let at = item.at;
-        if let Some(kind) = own_fault(&item.token) {
-            return Err(ParseFault::Refused(Refusal { at, kind }));
-        }
-        if let Some(kind) = count_fault(self.used, &item.token) {
-            return Err(ParseFault::Refused(Refusal { at, kind }));
-        }
-        if let Some(kind) = open_fault(self.depth, &item.token) {
-            return Err(self.too_deep(item, kind));
-        }
-        self.advance(item)
     }
 }

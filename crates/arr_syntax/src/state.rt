@@ -1,8 +1,7 @@
 use crate::parts::Parts;
-use crate::refusal::Place;
 use crate::stack::Stack;
-use crate::token::View;
-use crate::tree::{Code16, Cut, Expr, Lengths, Statement, Steps, Type4, Word};
+use arr_tokens::View;
+use arr_tree::{Code16, Cut, Expr, Lengths, Place, Statement, Steps, Type4, Word};
 use sqlite_items::{Boxed, Items};
 
 /// Where a tree is wanted: as a value, or as a place whose elements are named.
@@ -169,11 +168,11 @@ pub enum Move {
 }
 
 /// What a token makes of a field.
-#[derive(Drop)]
+#[derive(Clone, Copy)]
 pub enum Filled {
     Stuck,
     /// The field is over.
-    Over(Fields),
+    Over,
     /// This is still to come of it.
-    Turns(Field, Fields),
+    Turns(Field),
 }

@@ -1,16 +1,18 @@
 ghost use Rattle.std.specs.Prelude.{◌≡◌, ◌∷◌, [], IfOk, ◌<◌, ◌≤◌};
-ghost use Rattle.arr_syntax.specs.Grammar.{name_of, word_at};
-ghost use Rattle.arr_syntax.specs.Machine.{behind, level, rule_at, ends, row, resume, opened, opens, onward, fill, begins, take, goes, give, target, starts, named, binds, deletes, ended, step, fresh, with_tree};
+ghost use Rattle.arr_tree.specs.Trees.{name_of, word_at};
+ghost use Rattle.arr_syntax.specs.Machine.{behind, level, rule_at, ends, row, resume, opened, opens, begins, take, goes, fits, give, target, starts, named, binds, deletes, ended, step, fresh, with_tree};
 
 use crate::node::{EQUALS, VALUE, literal, statement, tree};
 use crate::parts::Parts;
-use crate::refusal::Place;
 use crate::stack::Stack;
-use crate::state::{Field, Fields, Filled, Frame, Head, Mode, Move, Node, Part, Row, Rule, State};
-use crate::token::{Item, Keyword, Sign, Token};
-use crate::tree::{Code16, Expr, ExprForm, Form, Statement, Word};
+use crate::state::{Fields, Filled, Frame, Head, Mode, Move, Node, Part, Row, Rule, State};
+use arr_tokens::{Item, Keyword, Sign, Token};
+use arr_tree::{Code16, Expr, ExprForm, Form, Place, Statement, Word};
 use sqlite_items::Boxed;
 use std::alloc::{AllocError, Global};
+
+/// A move, or want of memory.
+type Moved = Result<Move, AllocError>;
 
 /// The rule of a sign behind a tree.
 fn behind(sign: Sign) -> Option<Rule>
@@ -85,34 +87,15 @@ fn ends(token: Token, statement: Boxed<Statement>) -> Move
     }
 }
 
-impl Row {
-    fn new(node: Node, at: Place, rest: Parts, fields: Fields) -> Row
-        ensures { result ≡ row node at rest fields }
-    {
-        Row {
-            node,
-            at,
-            rest,
-            fields,
-        }
-    }
-}
-
 /// The next part of a row, or what the row makes up.
-fn resume(alloc: Global, row: Row, stack: Stack) -> Result<Move, AllocError>
+fn resume(alloc: Global, mut row: Row, stack: Stack) -> Moved
     ensures { IfOk result (λ m. m ≡ resume row.node row.at row.rest row.fields stack) }
 {
-    let Row {
-        node,
-        at,
-        mut rest,
-        fields,
-    } = row;
-    if let Some(part) = rest.next() {
-        let row = Row::new(node, at, rest, fields);
+    if let Some(part) = row.rest.next() {
         return Ok(Move::On(State::Fill { part, row, stack }));
     }
-    match node {
+    let (at, fields) = (row.at, row.fields);
+    match row.node {
         Node::Tree(rule) => Ok(Move::On(State::Have {
             level: rule.level(),
             tree: rule.build(alloc, at, fields)?,
@@ -126,26 +109,20 @@ fn resume(alloc: Global, row: Row, stack: Stack) -> Result<Move, AllocError>
 }
 
 /// The row begins behind its first token.
-fn opened(
-    alloc: Global,
-    node: Node,
-    at: Place,
-    fields: Fields,
-    stack: Stack,
-) -> Result<Move, AllocError>
+fn opened(alloc: Global, node: Node, at: Place, fields: Fields, stack: Stack) -> Moved
     ensures { IfOk result (λ m. m ≡ opened node at fields stack) }
 {
     let rest = node.row();
-    resume(alloc, Row::new(node, at, rest, fields), stack)
+    let row = Row {
+        node,
+        at,
+        rest,
+        fields,
+    };
+    resume(alloc, row, stack)
 }
 
-fn opens(
-    alloc: Global,
-    rule: Option<Rule>,
-    at: Place,
-    fields: Fields,
-    stack: Stack,
-) -> Result<Move, AllocError>
+fn opens(alloc: Global, rule: Option<Rule>, at: Place, fields: Fields, stack: Stack) -> Moved
     ensures { IfOk result (λ m. m ≡ opens rule at fields stack) }
 {
     match rule {
@@ -154,41 +131,8 @@ fn opens(
     }
 }
 
-/// A token at a field of a row.
-fn fills(
-    alloc: Global,
-    field: Field,
-    row: Row,
-    stack: Stack,
-    item: Item,
-) -> Result<Move, AllocError>
-    ensures { IfOk result (λ m. m ≡ onward row.node row.at row.rest stack (fill field item.token item.at row.fields)) }
-{
-    let Row {
-        node,
-        at,
-        rest,
-        fields,
-    } = row;
-    match fields.fill(alloc, field, item.token, item.at)? {
-        Filled::Stuck => Ok(Move::Stuck),
-        Filled::Over(fields) => resume(alloc, Row::new(node, at, rest, fields), stack),
-        Filled::Turns(field, fields) => {
-            let row = Row::new(node, at, rest, fields);
-            let part = Part::Field(field);
-            Ok(Move::On(State::Fill { part, row, stack }))
-        }
-    }
-}
-
 /// The first token of a tree.
-fn begins(
-    alloc: Global,
-    mode: Mode,
-    token: Token,
-    at: Place,
-    stack: Stack,
-) -> Result<Move, AllocError>
+fn begins(alloc: Global, mode: Mode, token: Token, at: Place, stack: Stack) -> Moved
     ensures { IfOk result (λ m. m ≡ begins mode token at stack) }
 {
     let tree = match (mode, token) {
@@ -213,13 +157,7 @@ fn name_of(alloc: Global, word: Word) -> Result<Boxed<Expr>, AllocError>
 }
 
 /// A token at a part of a row.
-fn take(
-    alloc: Global,
-    part: Part,
-    row: Row,
-    mut stack: Stack,
-    item: Item,
-) -> Result<Move, AllocError>
+fn take(alloc: Global, part: Part, mut row: Row, mut stack: Stack, item: Item) -> Moved
     ensures { IfOk result (λ m. m ≡ take row.node row.at part row.rest row.fields stack item) }
 {
     match part {
@@ -228,61 +166,67 @@ fn take(
             stack.push(Frame { row, level })?;
             begins(alloc, mode, item.token, item.at, stack)
         }
-        Part::Field(field) => fills(alloc, field, row, stack, item),
+        Part::Field(field) => match row.fields.fill(alloc, field, &item.token, item.at) {
+            Ok(Filled::Over) => resume(alloc, row, stack),
+            Ok(Filled::Turns(field)) => {
+                let part = Part::Field(field);
+                Ok(Move::On(State::Fill { part, row, stack }))
+            }
+            Ok(Filled::Stuck) => {
+                drop(row);
+                Ok(Move::Stuck)
+            }
+            Err(fault) => {
+                drop(row);
+                Err(fault)
+            }
+        },
     }
 }
 
 /// A token that goes on behind a tree.
-fn goes(
-    alloc: Global,
-    token: Token,
-    at: Place,
-    stack: Stack,
-    tree: Boxed<Expr>,
-) -> Result<Move, AllocError>
+fn goes(alloc: Global, token: Token, at: Place, stack: Stack, tree: Boxed<Expr>) -> Moved
     ensures { IfOk result (λ m. m ≡ goes token at stack tree) }
 {
     match token {
         Token::Sign(sign) => {
-            let fields = Fields::new(alloc, at).with(tree);
+            let mut fields = Fields::new(alloc, at);
+            fields.add(tree);
             opens(alloc, behind(sign), at, fields, stack)
         }
         _ => Ok(Move::Stuck),
     }
 }
 
+/// Whether a token goes on behind a tree of this level, below the level that is wanted.
+fn fits(least: u8, token: &Token, wanted: u8) -> bool
+    ensures { result ≡ fits least token.now wanted }
+{
+    let goes_at = level(token);
+    least <= goes_at && goes_at < wanted
+}
+
 /// A token behind a tree of this level: it goes on there, or the innermost frame has its tree.
-fn give(
-    alloc: Global,
-    mut stack: Stack,
-    level_now: u8,
-    tree: Boxed<Expr>,
-    item: Item,
-) -> Result<Move, AllocError>
+fn give(alloc: Global, mut stack: Stack, level_now: u8, tree: Boxed<Expr>, item: Item) -> Moved
     ensures { IfOk result (λ m. m ≡ give stack level_now tree item) }
 {
     let mut tree = tree;
     let mut least = level_now;
-    let goes_at = level(&item.token);
     'frames: loop {
         let Some(frame) = stack.pop() else {
             return Ok(Move::Stuck);
         };
-        if least <= goes_at && goes_at < frame.level {
+        if fits(least, &item.token, frame.level) {
             stack.push(frame)?;
             return goes(alloc, item.token, item.at, stack, tree);
         }
-        let Row {
-            node,
-            at,
-            mut rest,
-            fields,
-        } = frame.row;
-        let fields = fields.with(tree);
-        if let Some(part) = rest.next() {
-            return take(alloc, part, Row::new(node, at, rest, fields), stack, item);
+        let mut row = frame.row;
+        row.fields.add(tree);
+        if let Some(part) = row.rest.next() {
+            return take(alloc, part, row, stack, item);
         }
-        match node {
+        let (at, fields) = (row.at, row.fields);
+        match row.node {
             Node::Statement(head) => {
                 let statement = head.build(alloc, at, fields)?;
                 return Ok(ends(item.token, statement));
@@ -295,26 +239,30 @@ fn give(
     }
 }
 
+/// A stack with the row of a statement alone, of which these parts are still to come behind a tree of this level.
+fn alone(alloc: Global, head: Head, at: Place, rest: Parts, level: u8) -> Result<Stack, AllocError>
+    ensures { IfOk result (λ s. s ≡ record { row = row (Node.Statement head) at rest (fresh at); level = level } ∷ []) }
+{
+    let row = Row {
+        node: Node::Statement(head),
+        at,
+        rest,
+        fields: Fields::new(alloc, at),
+    };
+    let mut stack = Stack::new(alloc);
+    stack.push(Frame { row, level })?;
+    Ok(stack)
+}
+
 /// A stack with the target of a statement alone.
 fn target(alloc: Global, at: Place) -> Result<Stack, AllocError>
     ensures { IfOk result (λ s. s ≡ target at) }
 {
-    let node = Node::Statement(Head::Assign);
-    let rest = Parts::new(&[EQUALS, VALUE]);
-    let row = Row::new(node, at, rest, Fields::new(alloc, at));
-    alone(alloc, Frame { row, level: 1 })
-}
-
-fn alone(alloc: Global, frame: Frame) -> Result<Stack, AllocError>
-    ensures { IfOk result (λ s. s ≡ frame ∷ []) }
-{
-    let mut stack = Stack::new(alloc);
-    stack.push(frame)?;
-    Ok(stack)
+    alone(alloc, Head::Assign, at, Parts::new(&[EQUALS, VALUE]), 1)
 }
 
 /// A statement of a row begins.
-fn heads(alloc: Global, head: Head, at: Place) -> Result<Move, AllocError>
+fn heads(alloc: Global, head: Head, at: Place) -> Moved
     ensures { IfOk result (λ m. m ≡ opened (Node.Statement head) at (fresh at) []) }
 {
     let fields = Fields::new(alloc, at);
@@ -322,7 +270,7 @@ fn heads(alloc: Global, head: Head, at: Place) -> Result<Move, AllocError>
 }
 
 /// The first token of a line.
-fn starts(alloc: Global, token: Token, at: Place) -> Result<Move, AllocError>
+fn starts(alloc: Global, token: Token, at: Place) -> Moved
     ensures { IfOk result (λ m. m ≡ starts token at) }
 {
     match token {
@@ -344,14 +292,16 @@ fn starts(alloc: Global, token: Token, at: Place) -> Result<Move, AllocError>
 }
 
 /// The token behind a name at the beginning of a statement.
-fn named(alloc: Global, token: Token, at: Place, name: Word) -> Result<Move, AllocError>
+fn named(alloc: Global, token: Token, at: Place, name: Word) -> Moved
     ensures { IfOk result (λ m. m ≡ named token at name) }
 {
     match token {
         Token::Sign(Sign::Assign) => Ok(Move::On(State::Bound(name))),
         Token::Sign(Sign::OpenIndex) => {
-            let fields = Fields::new(alloc, at).with(name_of(alloc, name)?);
+            let tree = name_of(alloc, name)?;
             let stack = target(alloc, at)?;
+            let mut fields = Fields::new(alloc, at);
+            fields.add(tree);
             opened(alloc, Node::Tree(Rule::Index), at, fields, stack)
         }
         _ => Ok(Move::Stuck),
@@ -359,23 +309,20 @@ fn named(alloc: Global, token: Token, at: Place, name: Word) -> Result<Move, All
 }
 
 /// The token behind the `=` of a binding.
-fn binds(alloc: Global, token: Token, at: Place, name: Word) -> Result<Move, AllocError>
+fn binds(alloc: Global, token: Token, at: Place, name: Word) -> Moved
     ensures { IfOk result (λ m. m ≡ binds token at name) }
 {
     match token {
         Token::Keyword(Keyword::Gather) => heads(alloc, Head::Gather(name), at),
         _ => {
-            let fields = Fields::new(alloc, name.at);
             let name_at = name.at;
-            let node = Node::Statement(Head::Bind(name));
-            let row = Row::new(node, name_at, Parts::new(&[]), fields);
-            let stack = alone(alloc, Frame { row, level: 9 })?;
+            let stack = alone(alloc, Head::Bind(name), name_at, Parts::new(&[]), 9)?;
             begins(alloc, Mode::Value, token, at, stack)
         }
     }
 }
 
-fn deletes(alloc: Global, token: Token, at: Place) -> Result<Move, AllocError>
+fn deletes(alloc: Global, token: Token, at: Place) -> Moved
     ensures { IfOk result (λ m. m ≡ deletes token at) }
 {
     match token {
@@ -400,7 +347,7 @@ fn ended(token: Token) -> Move
 }
 
 /// What a token makes of a state.
-pub fn step(alloc: Global, state: State, item: Item) -> Result<Move, AllocError>
+pub fn step(alloc: Global, state: State, item: Item) -> Moved
     ensures { IfOk result (λ m. m ≡ step state item) }
 {
     match state {

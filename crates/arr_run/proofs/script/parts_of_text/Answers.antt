@@ -4,7 +4,8 @@ use Rattle.arr_elab.proofs.Recorded.{recorded}
 use Rattle.arr_record.specs.Parts.{parts_of}
 use Rattle.arr_record.proofs.Few.{few_parts}
 use Rattle.arr_run.specs.Answers.{IsAccepted, start}
-use Rattle.arr_syntax.specs.Tokens.{place_behind}
+use Rattle.arr_tokens.specs.Tokens.{place_behind}
+use Rattle.arr_syntax.proofs.Weighed.{script_weighs}
 use Rattle.arr_run.proofs.Given.{refuses_length}
 use Rattle.arr_run.proofs.script.parts_of_text.Goals as goal
 
@@ -23,5 +24,5 @@ returns-in-Ok-parts-clause-few c =
     let steps = c.in-Ok.steps.items in
     let a : IsAccepted c.args.bytes.now steps = c.in-Ok.ensures.steps in
     let same : length parts ≡ length (parts_of steps) = ap length (c.in-Ok-parts.ensures.parts ∙ ap parts_of c.deref.ensures.value) in
-    let few = few_parts c.args.bytes.now a.statements steps a.short a.reads.script a.accepts in
+    let few = few_parts (length c.args.bytes.now) a.statements steps a.short (script_weighs c.args.bytes.now a.statements a.reads.script) a.accepts in
     omega arith

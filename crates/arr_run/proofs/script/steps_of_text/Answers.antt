@@ -1,7 +1,7 @@
 use Rattle.std.proofs.Common.{sym, subst}
 use Rattle.arr_run.specs.Answers.{Refuses, grammar, meaning}
 use Rattle.arr_syntax.specs.Refused.{IfRefused, IsRefused}
-use Rattle.arr_syntax.specs.Tokens.{tokens}
+use Rattle.arr_tokens.specs.Tokens.{tokens}
 use Rattle.arr_run.proofs.script.steps_of_text.Goals as goal
 
 pub returns-in-Err-Refused-clause-refused : goal.returns-in-Err-Refused-clause-refused

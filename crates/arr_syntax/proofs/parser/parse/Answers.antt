@@ -1,4 +1,4 @@
-use Rattle.arr_syntax.specs.Tokens.{tokens}
+use Rattle.arr_tokens.specs.Tokens.{tokens}
 use Rattle.arr_syntax.proofs.Unique.{one_script, not_both, answers_script, answers_refused}
 use Rattle.arr_syntax.proofs.parser.parse.Goals as goal
 

@@ -4,10 +4,10 @@ use Rattle.arr_syntax.proofs.reader.Reader.too_deep.Goals as goal
 
 pub returns-then-is_stuck : goal.returns-then-is_stuck
 returns-then-is_stuck c = λ is.
-    run_stuck_if c.args.self.depth c.args.self.used c.args.self.statements c.args.self.state c.args.item is c.in-Ok.moved
-    c.requires.own c.requires.counted c.in-Ok.ensures (sym c.is_stuck.ensures ∙ c.if-is_stuck.true)
+    run_stuck_if c.args.self.now.depth c.args.self.now.used c.args.self.now.statements c.args.state c.args.item is
+    c.requires.counted.0 c.requires.counted.1 c.in-Ok.moved c.in-Ok.ensures (sym c.is_stuck-is_stuck.ensures ∙ c.if-is_stuck.true)
 
 pub returns : goal.returns
 returns c = λ is.
-    run_deep_if c.args.self.depth c.args.self.used c.args.self.statements c.args.self.state c.args.item is c.args.kind c.in-Ok.moved
-    c.requires.own c.requires.counted c.requires.deep c.in-Ok.ensures (sym c.is_stuck.ensures ∙ c.if-is_stuck.false)
+    run_deep_if c.args.self.now.depth c.args.self.now.used c.args.self.now.statements c.args.state c.args.item is
+    c.requires.counted.0 c.requires.counted.1 c.args.kind c.in-Ok.moved c.requires.deep c.in-Ok.ensures (sym c.is_stuck-is_stuck.ensures ∙ c.if-is_stuck.false)

@@ -1,6 +1,6 @@
 use Rattle.std.proofs.Common.{◌≡◌, ◌≤◌, length}
-use Rattle.arr_syntax.specs.Tokens.{items_from}
-use Rattle.arr_syntax.proofs.text.Text.next.Given as goal
+use Rattle.arr_tokens.specs.Tokens.{items_from}
+use Rattle.arr_tokens.proofs.text.Text.next.Given as goal
 
 abbrev pub invariant-pieces : goal.invariant-pieces
 invariant-pieces l = record {

@@ -2,14 +2,13 @@
 use Rattle.std.proofs.Common.{◌≡◌, ℕ, zero, suc, ◌+◌, ◌-◌, ◌*◌, ◌<◌, ◌≤◌, List, [], ◌∷◌, length, get_or, take, drop, Option, Some, None, IfSome, refl, sym, ap, subst, arith, Bool, true, false, cond, eqb, nat_lt, nat_le, ◌∙◌, drop-cons}
 use Rattle.std.proofs.lemmas.List.{drop_all}
 use Rattle.std.proofs.lemmas.Bool.Decides.{nat_tests}
-use Rattle.arr_syntax.specs.declared.refusal.Place.{Place}
-use Rattle.arr_syntax.specs.declared.token.Item.{Item}
-use Rattle.arr_syntax.specs.declared.token.Token.{Token}
-use Rattle.arr_syntax.specs.declared.token.Token.TheVariants as token
-use Rattle.arr_syntax.specs.declared.token.Sign.{Sign}
-use Rattle.arr_syntax.specs.declared.token.Keyword.{Keyword}
-use Rattle.arr_syntax.specs.Run.{is_end, behind}
-use Rattle.arr_syntax.specs.Tokens.{is_blank, is_digit, is_letter, digits, decimal, number_of, word, reserved, unless_reserved, word_of, comment, sign_of_one, sign_of_two, sign_or_bad, piece, beyond, place_behind, put, items_from}
+use Rattle.arr_tree.specs.declared.refusal.Place.{Place}
+use Rattle.arr_tokens.specs.declared.token.Item.{Item}
+use Rattle.arr_tokens.specs.declared.token.Token.{Token}
+use Rattle.arr_tokens.specs.declared.token.Token.TheVariants as token
+use Rattle.arr_tokens.specs.declared.token.Sign.{Sign}
+use Rattle.arr_tokens.specs.declared.token.Keyword.{Keyword}
+use Rattle.arr_tokens.specs.Tokens.{is_blank, is_digit, is_letter, digits, decimal, number_of, word, reserved, unless_reserved, word_of, comment, sign_of_one, sign_of_two, sign_or_bad, piece, beyond, place_behind, put, items_from, tokens, is_end, behind}
 
 pub decimal_least : (n : ℕ) (bs : List ℕ) → n ≤ decimal n bs
 decimal_least n [] = omega arith
@@ -111,3 +110,22 @@ module _ (p : Place) (bs : List ℕ) (n : ℕ) (front rest : List ℕ) (q : Plac
       let fine : Fine t = subst (λ (o : Option Token). IfSome o Fine) (sym e) (piece_fine bs) in
       let c = cut_one p bs n (Some t) e f z h in
       rw (w, a, b) (c ∙ ap (λ (l : List Item). at_place t p ∷ l) (behind_token (at_place t p) _ fine))
+
+-- ---- a text has at most one token a byte, and its end
+
+put_short : (o : Option Token) (p : Place) (items : List Item) (n : ℕ) → length items ≤ n → length (put o p items) ≤ n + 1
+put_short None p items n h = omega arith
+put_short (Some t) p items n h = omega arith
+
+items_short : (skip : ℕ) (p : Place) (text : List ℕ) → length (items_from skip p text) ≤ length text + 1
+unfolding items_from
+items_short skip p [] = omega arith
+items_short (suc skip) p (b ∷ bs) = let h = items_short skip (beyond p b) bs in omega arith
+items_short zero p (b ∷ bs) =
+    let rest : List Item = items_from ((piece (b ∷ bs)).1 - 1) (beyond p b) bs in
+    let h : length rest ≤ length bs + 1 = items_short ((piece (b ∷ bs)).1 - 1) (beyond p b) bs in
+    let k : length (put (piece (b ∷ bs)).0 p rest) ≤ (length bs + 1) + 1 = put_short (piece (b ∷ bs)).0 p rest (length bs + 1) h in
+    omega arith
+
+pub tokens_short : (text : List ℕ) → length (tokens text) ≤ length text + 1
+tokens_short text = items_short 0 (record { line = 1; column = 1 }) text

@@ -1,10 +1,8 @@
 ghost use Rattle.std.specs.Prelude.{◌≡◌, ◌∷◌, ℕ, ◌+◌, ◌-◌, ◌^◌, ◌<◌, ◌≤◌, length, Some, None, List, Option, IfOk, false};
-ghost use Rattle.arr_syntax.specs.Run.{is_end, behind};
-ghost use Rattle.arr_syntax.specs.Tokens.{digits, decimal, number_of, is_blank, is_letter, is_word_byte, word, named, reserved, word_of, sign_of_one, sign_of_two, sign_piece, piece, comment, beyond, place_behind, items_from};
+ghost use Rattle.arr_tokens.specs.Tokens.{is_end, behind, digits, decimal, number_of, is_blank, is_letter, is_word_byte, word, named, reserved, word_of, sign_of_one, sign_of_two, sign_piece, piece, comment, beyond, place_behind, items_from};
 
-use crate::refusal::Place;
 use crate::token::{Item, Keyword, Sign, Token, View};
-use crate::tree::{Code16, Type4};
+use arr_tree::{Code16, Place, Type4};
 use sqlite_items::Items;
 use std::alloc::{AllocError, Global};
 
@@ -164,7 +162,7 @@ fn sign_of_two(first: u8, behind: &[u8]) -> Option<Sign>
 }
 
 fn sign_piece(first: u8, behind: &[u8]) -> (Option<Token>, usize)
-    ensures what { (result.0 ≡ (sign_piece first behind.now).0) × (result.1 ≡ (sign_piece first behind.now).1) }
+    ensures what { result ≡ sign_piece first behind.now }
     ensures some { 0 < result.1 }
     ensures within { result.1 ≤ length behind.now + 1 }
 {
@@ -180,7 +178,7 @@ fn sign_piece(first: u8, behind: &[u8]) -> (Option<Token>, usize)
 /// The token in front, none for a blank or a comment, and its length.
 fn piece(alloc: Global, bytes: &[u8]) -> Result<(Option<Token>, usize), AllocError>
     requires { 0 < length bytes.now }
-    ensures what { IfOk result (λ x. (x.0 ≡ (piece bytes.now).0) × (x.1 ≡ (piece bytes.now).1)) }
+    ensures what { IfOk result (λ x. x ≡ piece bytes.now) }
     ensures some { IfOk result (λ x. 0 < x.1) }
     ensures within { IfOk result (λ x. x.1 ≤ length bytes.now) }
 {

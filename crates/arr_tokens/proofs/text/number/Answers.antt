@@ -1,6 +1,6 @@
 use Rattle.std.proofs.Common.{arith}
-use Rattle.arr_syntax.proofs.Cutting.{too_wide, whole_number}
-use Rattle.arr_syntax.proofs.text.number.Goals as goal
+use Rattle.arr_tokens.proofs.Cutting.{too_wide, whole_number}
+use Rattle.arr_tokens.proofs.text.number.Goals as goal
 
 pub returns-in_default : goal.returns-in_default
 returns-in_default c = too_wide c.loop-b.value c.loop-b.b-index c.args.digits.now (omega arith) c.loop-b.invariant.spells (let h = c.in_default.ensures in omega (arith, h))

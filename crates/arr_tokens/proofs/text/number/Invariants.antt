@@ -1,6 +1,6 @@
 use Rattle.std.proofs.Common.{◌≡◌, ◌<◌, drop}
-use Rattle.arr_syntax.specs.Tokens.{decimal}
-use Rattle.arr_syntax.proofs.text.number.Given as goal
+use Rattle.arr_tokens.specs.Tokens.{decimal}
+use Rattle.arr_tokens.proofs.text.number.Given as goal
 
 abbrev pub invariant-loop-b : goal.invariant-loop-b
 invariant-loop-b l = record {

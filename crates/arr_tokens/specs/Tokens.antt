@@ -1,18 +1,18 @@
 -- How a text is cut into tokens.
-use Rattle.std.specs.Prelude.{ℕ, zero, suc, ◌+◌, ◌-◌, ◌*◌, Bool, ◌&&◌, ◌||◌, not, eqb, nat_le, nat_lt, length, List, [], ◌∷◌, Option, Some, None, if◌then◌else◌, codes, bytes_eq}
+use Rattle.std.specs.Prelude.{ℕ, zero, suc, ◌+◌, ◌-◌, ◌*◌, Bool, ◌&&◌, ◌||◌, not, true, false, eqb, nat_le, nat_lt, length, List, [], ◌∷◌, Option, Some, None, if◌then◌else◌, codes, bytes_eq}
 use Rattle.std.specs.Option.{option_or}
 use Rattle.std.specs.List.{take_while}
-use Rattle.arr_syntax.specs.declared.refusal.Place.{Place}
-use Rattle.arr_syntax.specs.declared.token.Item.{Item}
-use Rattle.arr_syntax.specs.declared.token.Token.{Token}
-use Rattle.arr_syntax.specs.declared.token.Token.TheVariants as token
-use Rattle.arr_syntax.specs.declared.token.Sign.{Sign}
-use Rattle.arr_syntax.specs.declared.token.Sign.TheVariants as sign
-use Rattle.arr_syntax.specs.declared.token.Keyword.{Keyword}
-use Rattle.arr_syntax.specs.declared.token.Keyword.TheVariants as keyword
-use Rattle.arr_syntax.specs.declared.token.View.TheVariants.{Broadcast, Transpose, Reshape, Strided}
-use Rattle.arr_syntax.specs.declared.tree.Code16.TheVariants as code
-use Rattle.arr_syntax.specs.declared.tree.Type4.TheVariants.{U8, I32, I64, U64}
+use Rattle.arr_tree.specs.declared.refusal.Place.{Place}
+use Rattle.arr_tokens.specs.declared.token.Item.{Item}
+use Rattle.arr_tokens.specs.declared.token.Token.{Token}
+use Rattle.arr_tokens.specs.declared.token.Token.TheVariants as token
+use Rattle.arr_tokens.specs.declared.token.Sign.{Sign}
+use Rattle.arr_tokens.specs.declared.token.Sign.TheVariants as sign
+use Rattle.arr_tokens.specs.declared.token.Keyword.{Keyword}
+use Rattle.arr_tokens.specs.declared.token.Keyword.TheVariants as keyword
+use Rattle.arr_tokens.specs.declared.token.View.TheVariants.{Broadcast, Transpose, Reshape, Strided}
+use Rattle.arr_tree.specs.declared.tree.Code16.TheVariants as code
+use Rattle.arr_tree.specs.declared.tree.Type4.TheVariants.{U8, I32, I64, U64}
 
 -- bytes
 
@@ -148,3 +148,11 @@ place_behind p (b ∷ bs) = place_behind (beyond p b) bs
 -- the tokens of a text
 abbrev pub tokens : List ℕ → List Item
 tokens text = items_from 0 (record { line = 1; column = 1 }) text
+
+abbrev pub is_end : Token → Bool
+is_end token.End = true
+is_end _ = false
+
+-- nothing comes behind the end
+abbrev pub behind : Item → List Item → List Item
+behind i is = if is_end i.token then [] else is

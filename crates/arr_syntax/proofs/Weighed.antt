@@ -1,112 +1,20 @@
 -- A script has at least as many tokens as operations that its trees can record.
-use Rattle.std.proofs.Common.{◌≡◌, ℕ, ◌+◌, ◌≤◌, ℤ, List, [], ◌∷◌, Bool, Option, length, arith, ap, sym, ◌∙◌}
-use Rattle.arr_syntax.specs.declared.refusal.Place.{Place}
-use Rattle.arr_syntax.specs.declared.token.Item.{Item}
+use Rattle.std.proofs.Common.{ℕ, ◌+◌, ◌≤◌, ℤ, List, [], ◌∷◌, Bool, Option, length, arith}
+use Rattle.arr_tree.specs.declared.refusal.Place.{Place}
+use Rattle.arr_tree.specs.declared.tree.Code16.TheVariants as code
+use Rattle.arr_tree.specs.declared.tree.Type4.{Type4}
+use Rattle.arr_tree.specs.declared.tree.Cut.{Cut}
+use Rattle.arr_tree.specs.declared.tree.Expr.{Expr}
+use Rattle.arr_tree.specs.declared.tree.Statement.{Statement}
+use Rattle.arr_tree.specs.Trees.{literal_at, name_of, word_at, lengths_at, steps_at}
+use Rattle.arr_tree.specs.Weights.{weight, form_weight, script_weight}
+use Rattle.arr_tree.proofs.Weighed.{weighs_literal, weighs_name, weighs_unary, weighs_binary, weighs_power, weighs_fold, weighs_cast, weighs_range, weighs_full, weighs_index, weighs_broadcast, weighs_transpose, weighs_reshape, weighs_strided}
+use Rattle.arr_tokens.specs.declared.token.Item.{Item}
 use Rattle.arr_syntax.specs.declared.state.Mode.{Mode}
-use Rattle.arr_syntax.specs.declared.tree.Code16.{Code16}
-use Rattle.arr_syntax.specs.declared.tree.Code16.TheVariants as code
-use Rattle.arr_syntax.specs.declared.tree.Type4.{Type4}
-use Rattle.arr_syntax.specs.declared.tree.Cut.{Cut}
-use Rattle.arr_syntax.specs.declared.tree.Word.{Word}
-use Rattle.arr_syntax.specs.declared.tree.Lengths.{Lengths}
-use Rattle.arr_syntax.specs.declared.tree.Steps.{Steps}
-use Rattle.arr_syntax.specs.declared.tree.Expr.{Expr, fold-Expr}
-use Rattle.arr_syntax.specs.declared.tree.ExprForm.{ExprForm, roll-ExprForm}
-use Rattle.arr_syntax.specs.declared.tree.ExprForm.TheOpen.{ExprForm-F}
-use Rattle.arr_syntax.specs.declared.tree.ExprForm.TheFolds.{map-ExprForm, fold-ExprForm, fold-roll-ExprForm, fold-roll-Expr}
-use Rattle.arr_syntax.specs.declared.tree.ExprForm.TheVariants as expr
-use Rattle.arr_syntax.specs.declared.tree.Form.{Form}
-use Rattle.arr_syntax.specs.declared.tree.Form.TheVariants as form
-use Rattle.arr_syntax.specs.declared.tree.Statement.{Statement}
+use Rattle.arr_tokens.specs.Tokens.{tokens}
 use Rattle.arr_syntax.specs.Grammar as grammar
-use Rattle.arr_syntax.specs.Grammar.{Literal, Listed, Bracketed, Length, Stride, Bound, Step, Slice, RangeType, Argument, Ends, Level, Placed, Primary, ViewCall, Rest, Target, OneStatement, Script, binary_at, Shape, Strides, Index, literal_at, unary_at, power_at, fold_at, cast_at, range_at, full_at, index_at, broadcast_at, transpose_at, reshape_at, strided_at, word_at, name_of, lengths_at, steps_at}
-
--- ---- the most operations that a tree records
-
--- one for each form that makes an operation, and those of the arguments
-abbrev pub weight_of : ExprForm-F ℕ ℕ → ℕ
-weight_of (ExprForm-F.Literal negative size) = 0
-weight_of (ExprForm-F.Name word) = 0
-weight_of (ExprForm-F.Unary code of) = of + 1
-weight_of (ExprForm-F.Binary code left right) = left + right + 1
-weight_of (ExprForm-F.Power of exponent) = of + 1
-weight_of (ExprForm-F.Fold code of axis axis_at) = of + 1
-weight_of (ExprForm-F.Cast to of) = of + 1
-weight_of (ExprForm-F.Range count count_at to) = 1
-weight_of (ExprForm-F.Full shape number to) = number + 1
-weight_of (ExprForm-F.Index of slices) = of
-weight_of (ExprForm-F.Broadcast of shape) = of
-weight_of (ExprForm-F.Transpose of) = of
-weight_of (ExprForm-F.Reshape of shape) = of
-weight_of (ExprForm-F.Strided of start shape strides) = of
-
-abbrev pub weight : Expr → ℕ
-weight = fold-Expr ℕ ℕ weight_of (λ e. e.form)
-
--- a print and an assignment may add one of their own
-abbrev pub form_weight : Form → ℕ
-form_weight (form.Print e) = weight e + 1
-form_weight (form.Del word) = 0
-form_weight form.Flush = 0
-form_weight (form.Bind word e) = weight e
-form_weight (form.Assign target equals e) = weight target + weight e + 1
-form_weight (form.Gather word at source index) = weight source + weight index + 1
-form_weight (form.Scatter at target index values) = weight target + weight index + weight values + 1
-
-abbrev pub script_weight : List Statement → ℕ
-script_weight [] = 0
-script_weight (s ∷ ss) = form_weight s.form + script_weight ss
-
--- ---- the weight of each form
-
-abbrev pub weight_form : ExprForm → ℕ
-weight_form = fold-ExprForm ℕ ℕ weight_of (λ e. e.form)
-
-weighs : (at : Place) (y : ExprForm-F ExprForm Expr) (f : ExprForm) → roll-ExprForm y ≡ f → weight (record { at = at; form = f }) ≡ weight_of (map-ExprForm ExprForm Expr ℕ ℕ weight_form weight y)
-weighs at y f e = fold-roll-Expr ℕ ℕ weight_of (λ e. e.form) (record { at = at; form = f }) ∙ ap weight_form (sym e) ∙ fold-roll-ExprForm ℕ ℕ weight_of (λ e. e.form) y
-
-module _ (at : Place) where
-  weighs_literal : (negative : Bool) (size : ℕ) → weight (literal_at at negative size) ≡ 0
-  weighs_literal negative size = weighs at (ExprForm-F.Literal negative size) _ (expr.rolls-Literal negative size)
-
-  weighs_name : (word : Word) → weight (record { at = at; form = expr.Name word }) ≡ 0
-  weighs_name word = weighs at (ExprForm-F.Name word) _ (expr.rolls-Name word)
-
-  weighs_unary : (c : Code16) (of : Expr) → weight (unary_at at c of) ≡ weight of + 1
-  weighs_unary c of = weighs at (ExprForm-F.Unary c of) _ (expr.rolls-Unary c of)
-
-  weighs_binary : (c : Code16) (left right : Expr) → weight (binary_at at c left right) ≡ weight left + weight right + 1
-  weighs_binary c left right = weighs at (ExprForm-F.Binary c left right) _ (expr.rolls-Binary c left right)
-
-  weighs_power : (of : Expr) (exponent : ℕ) → weight (power_at at of exponent) ≡ weight of + 1
-  weighs_power of exponent = weighs at (ExprForm-F.Power of exponent) _ (expr.rolls-Power of exponent)
-
-  weighs_fold : (c : Code16) (of : Expr) (axis : ℕ) (axis_at : Place) → weight (fold_at at c of axis axis_at) ≡ weight of + 1
-  weighs_fold c of axis axis_at = weighs at (ExprForm-F.Fold c of axis axis_at) _ (expr.rolls-Fold c of axis axis_at)
-
-  weighs_cast : (to : Type4) (of : Expr) → weight (cast_at at to of) ≡ weight of + 1
-  weighs_cast to of = weighs at (ExprForm-F.Cast to of) _ (expr.rolls-Cast to of)
-
-  weighs_range : (count : ℕ) (count_at : Place) (to : Type4) → weight (range_at at count count_at to) ≡ 1
-  weighs_range count count_at to = weighs at (ExprForm-F.Range count count_at to) _ (expr.rolls-Range count count_at to)
-
-  weighs_full : (shape : Lengths) (number : Expr) (to : Type4) → weight (full_at at shape number to) ≡ weight number + 1
-  weighs_full shape number to = weighs at (ExprForm-F.Full shape number to) _ (expr.rolls-Full shape number to)
-
-  weighs_index : (of : Expr) (cuts : List Cut) → weight (index_at at of cuts) ≡ weight of
-  weighs_index of cuts = weighs at (ExprForm-F.Index of cuts) _ (expr.rolls-Index of cuts)
-
-  weighs_broadcast : (of : Expr) (shape : Lengths) → weight (broadcast_at at of shape) ≡ weight of
-  weighs_broadcast of shape = weighs at (ExprForm-F.Broadcast of shape) _ (expr.rolls-Broadcast of shape)
-
-  weighs_transpose : (of : Expr) → weight (transpose_at at of) ≡ weight of
-  weighs_transpose of = weighs at (ExprForm-F.Transpose of) _ (expr.rolls-Transpose of)
-
-  weighs_reshape : (of : Expr) (shape : Lengths) → weight (reshape_at at of shape) ≡ weight of
-  weighs_reshape of shape = weighs at (ExprForm-F.Reshape of shape) _ (expr.rolls-Reshape of shape)
-
-  weighs_strided : (of : Expr) (start : ℕ) (shape : Lengths) (strides : Steps) → weight (strided_at at of start shape strides) ≡ weight of
-  weighs_strided of start shape strides = weighs at (ExprForm-F.Strided of start shape strides) _ (expr.rolls-Strided of start shape strides)
+use Rattle.arr_syntax.specs.Grammar.{Literal, Listed, Bracketed, Length, Stride, Bound, Step, Slice, RangeType, Argument, Ends, Level, Placed, Primary, ViewCall, Rest, Target, OneStatement, Script, Shape, Strides, Index}
+use Rattle.arr_tokens.proofs.Cutting.{tokens_short}
 
 -- ---- literals and lists take tokens
 
@@ -233,10 +141,13 @@ statement_short (grammar.gather e f g h x k y l) = let p = level_short x in let 
 statement_short (grammar.scatter e f x g y h z k) = let p = placed_short x in let q = level_short y in let r = level_short z in omega arith
 
 mutual
-  pub script_short : (items : List Item) (ss : List Statement) → Script items ss → script_weight ss ≤ length items
+  script_short : (items : List Item) (ss : List Statement) → Script items ss → script_weight ss ≤ length items
   script_short items ss (grammar.blank x) = ends_short items ss x
   script_short items ss (grammar.statement {b = b} {ss = rest} x y) = let p = statement_short x in let q = ends_short b rest y in omega arith
 
   ends_short : (items : List Item) (ss : List Statement) → Ends items ss → script_weight ss ≤ length items
   ends_short items ss (grammar.finish e) = omega arith
   ends_short items ss (grammar.next {a = a} {ss = rest} e x) = let p = script_short a rest x in omega arith
+
+pub script_weighs : (text : List ℕ) (ss : List Statement) → Script (tokens text) ss → script_weight ss ≤ length text + 1
+script_weighs text ss script = let p = script_short (tokens text) ss script in let q = tokens_short text in omega arith

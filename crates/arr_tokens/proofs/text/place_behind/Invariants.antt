@@ -1,6 +1,6 @@
 use Rattle.std.proofs.Common.{◌≡◌, ◌≤◌, ◌+◌, drop}
-use Rattle.arr_syntax.specs.Tokens.{place_behind}
-use Rattle.arr_syntax.proofs.text.place_behind.Given as goal
+use Rattle.arr_tokens.specs.Tokens.{place_behind}
+use Rattle.arr_tokens.proofs.text.place_behind.Given as goal
 
 abbrev pub invariant-loop-b : goal.invariant-loop-b
 invariant-loop-b l = record {

@@ -1,5 +1,7 @@
-use crate::refusal::Place;
-use crate::tree::{Code16, Type4};
+ghost use Rattle.std.specs.Prelude.{◌≡◌};
+ghost use Rattle.arr_tokens.specs.Tokens.{is_end};
+
+use arr_tree::{Code16, Place, Type4};
 use sqlite_items::Items;
 
 /// The signs, each a token of one or two bytes.
@@ -74,6 +76,15 @@ pub enum Token {
     End,
     /// A byte that begins no token.
     Bad,
+}
+
+impl Token {
+    /// Whether it is the end of the text.
+    pub fn is_end(&self) -> bool
+        ensures { result ≡ is_end self.now }
+    {
+        matches!(self, Token::End)
+    }
 }
 
 /// A token, and the place of its first byte.
