@@ -128,7 +128,8 @@ pub(crate) fn writes(op: &Op, view: &View) -> bool
 
 /// Whether an operation writes a view identical to this one, or reads one.
 fn touches(op: &Op, view: &View, written: bool) -> bool
-    ensures { result ≡ cond written (list_any (identical view.now) (outputs op.now)) (list_any (identical view.now) (inputs op.now)) }
+    ensures { result ≡ cond written (list_any (identical view.now) (outputs op.now))
+        (list_any (identical view.now) (inputs op.now)) }
 {
     if written {
         writes(op, view)

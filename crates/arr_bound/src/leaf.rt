@@ -81,7 +81,8 @@ fn push_group(
 ) -> Result<(), NoMemory>
     requires view { view.now ≡ view_at ops.now at }
     requires within { at < (problem_of ops.now).classes }
-    requires touches { (f : ℕ) (fs : List ℕ) → picks ≡ f ∷ fs → IsTrue (list_any (identical view.now) (views (op_at ops.now f))) }
+    requires touches { (f : ℕ) (fs : List ℕ) → picks ≡ f ∷ fs
+        → IsTrue (list_any (identical view.now) (views (op_at ops.now f))) }
     requires ops { (f : ℕ) (fs : List ℕ) → picks ≡ f ∷ fs → (0 < f) × (f ≤ length ops.now) }
     ensures { OnOk result (Joined (problem_of ops.now) at picks groups.old groups.new) }
 {

@@ -15,7 +15,8 @@ fn lead_of(alloc: Global, set: &[u64], apart: &[u64], count: u32) -> Result<Opti
     requires long { length set.now ≡ count / 64 + 1 }
     requires table { IsTable count apart.now }
     requires inside { (g : ℕ) → is_set set.now g ≡ true → g ≤ count }
-    ensures { IfOk result (λ lead. MatchOption lead (NoneFrom set.now 0) (λ m. IsLead (in_row (count / 64 + 1) apart.now) set.now m)) }
+    ensures { IfOk result (λ lead. MatchOption lead (NoneFrom set.now 0)
+        (λ m. IsLead (in_row (count / 64 + 1) apart.now) set.now m)) }
 {
     let mut rest = set.to_vec(alloc)?;
     let first = first_in(set, 0);
@@ -44,7 +45,8 @@ fn pick(
     requires inside { f ≤ count }
     ensures picks { OnOk result (picks.new ≡ picks.old ++ f ∷ []) }
     ensures long { OnOk result (length set.new.items ≡ length set.old.items) }
-    ensures members { OnOk result ((g : ℕ) → is_set set.new.items g ≡ ((is_set set.old.items g && in_row (count / 64 + 1) apart.now f g) && not (f == g))) }
+    ensures members { OnOk result ((g : ℕ) → is_set set.new.items g
+        ≡ ((is_set set.old.items g && in_row (count / 64 + 1) apart.now f g) && not (f == g))) }
 {
     picks.push(f)?;
     keep_row(set, apart, f);

@@ -43,7 +43,8 @@ pub(crate) fn keep_row(set: &mut Vec<u64>, rows: &[u64], f: u32)
     requires small { f ≤ 320 }
     requires within { f * length set.old.items + length set.old.items ≤ length rows.now }
     ensures long { length set.new.items ≡ length set.old.items }
-    ensures members { (g : ℕ) → is_set set.new.items g ≡ (is_set set.old.items g && in_row (length set.old.items) rows.now f g) }
+    ensures members { (g : ℕ) → is_set set.new.items g
+        ≡ (is_set set.old.items g && in_row (length set.old.items) rows.now f g) }
 {
     let start = f as usize * set.len();
     for index in 0..set.len() {

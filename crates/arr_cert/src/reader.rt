@@ -225,8 +225,10 @@ impl Reader {
     pub fn next<S: Source>(&mut self, alloc: Global, source: &mut S) -> Result<Item, CheckFault>
         requires met { HasMetEnd S.Source self.old source.old }
         ensures item { is_over self.old ≡ false → IfOk result (Gives S.Source self.old self.new source.old source.new) }
-        ensures out { is_over self.old ≡ false → result ≡ Ok Item.End → IsAtEnd (unread S.Source self.new source.new).bytes }
-        ensures behind { is_over self.old ≡ false → IfOk result (λ item. IsBehind item (last_line self.new) (next_line self.new)) }
+        ensures out { is_over self.old ≡ false → result ≡ Ok Item.End
+            → IsAtEnd (unread S.Source self.new source.new).bytes }
+        ensures behind { is_over self.old ≡ false
+            → IfOk result (λ item. IsBehind item (last_line self.new) (next_line self.new)) }
         ensures on { is_over self.old ≡ false → IfOk result (λ item. next_line self.old ≤ last_line self.new) }
         ensures few { next_line self.new ≤ 67108865 }
         ensures ahead { ahead self.new ≤ 65536 }

@@ -183,7 +183,8 @@ fn put_tree<K: Sink>(sink: &mut K, so_far: Going, tree: &Records) -> Going
 pub fn write<K: Sink>(certificate: &Certificate, sink: &mut K) -> Result<(), WriteFault>
     requires spellable { is_spellable certificate.now ≡ true }
     ensures all { OnOk result (Appends (K.written sink.old) (K.written sink.new) (certificate_text certificate.now)) }
-    ensures part { OnErr result (AppendsPart (K.written sink.old) (K.written sink.new) (certificate_text certificate.now)) }
+    ensures part { OnErr result (AppendsPart (K.written sink.old) (K.written sink.new)
+        (certificate_text certificate.now)) }
     ensures cause { HasCause (K.faults sink.old) (K.faults sink.new) result }
 {
     let headed = put_head(

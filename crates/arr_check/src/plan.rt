@@ -70,7 +70,8 @@ fn may_share(tables: &Tables, places: &Places, f: u32, g: u32) -> bool
 }
 
 fn shares_rightly(tables: &Tables, places: &Places, f: u32) -> bool
-    ensures { result ≡ list_all (may_stand_with (problem_of tables.now) places.now f) (operations (problem_of tables.now)) }
+    ensures { result ≡ list_all (may_stand_with (problem_of tables.now) places.now f)
+        (operations (problem_of tables.now)) }
 {
     for k in 0..tables.count() {
         if !may_share(tables, places, f, k + 1) {
@@ -103,7 +104,8 @@ fn may_stand(tables: &Tables, places: &Places, f: u32, g: u32) -> bool
 }
 
 fn stands_rightly(tables: &Tables, places: &Places, f: u32) -> bool
-    ensures { result ≡ list_all (may_precede (problem_of tables.now) places.now f) (operations (problem_of tables.now)) }
+    ensures { result ≡ list_all (may_precede (problem_of tables.now) places.now f)
+        (operations (problem_of tables.now)) }
 {
     for k in 0..tables.count() {
         if !may_stand(tables, places, f, k + 1) {

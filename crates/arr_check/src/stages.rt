@@ -127,7 +127,8 @@ fn grow(
     entry: &Record,
 ) -> Result<Result<Stage, Reject>, NoMemory>
     requires { IsTree (problem_of tables.now) tree.old }
-    ensures turns { IfOk result (λ next. TurnsTree (problem_of tables.now) version cost bound tree.old tree.new entry.now next) }
+    ensures turns { IfOk result (λ next. TurnsTree
+        (problem_of tables.now) version cost bound tree.old tree.new entry.now next) }
     ensures tree { IfOk result (λ next. IfOk next (λ stage. IsTree (problem_of tables.now) tree.new)) }
 {
     if tree.whole {
@@ -152,7 +153,8 @@ pub(crate) fn read(
     entry: &Record,
 ) -> Result<Result<Stage, Reject>, NoMemory>
     requires { IsTree (problem_of tables.now) tree.old }
-    ensures turns { IfOk result (λ next. TurnsAt (problem_of tables.now) number stage tree.old tree.new entry.now next) }
+    ensures turns { IfOk result (λ next. TurnsAt
+        (problem_of tables.now) number stage tree.old tree.new entry.now next) }
     ensures tree { IfOk result (λ next. IfOk next (λ stage. IsTree (problem_of tables.now) tree.new)) }
 {
     match stage {

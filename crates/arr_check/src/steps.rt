@@ -50,7 +50,8 @@ fn conclusion(
     gives: Fact,
 ) -> Option<Fact>
     requires { IsFine (problem_of tables.now) known.now }
-    ensures { result ≡ given_in tables.now known.now (Some (record { operations = operations.now; premises = premises.now; gives = gives })) }
+    ensures { result ≡ given_in tables.now known.now
+        (Some (record { operations = operations.now; premises = premises.now; gives = gives })) }
 {
     if are_ops(tables, operations)
         && are_different(operations)

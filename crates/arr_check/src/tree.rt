@@ -44,7 +44,8 @@ pub(crate) struct Tree {
 
 fn branch_move(tables: &Tables, known: &Known, f: u32, g: u32) -> Move
     requires { IsFine (problem_of tables.now) known.now }
-    ensures { (version bound : ℕ) → DoesMove (problem_of tables.now) version bound (knows tables.now known.now) (Branch f g) result }
+    ensures { (version bound : ℕ) → DoesMove (problem_of tables.now) version bound (knows tables.now known.now)
+        (Branch f g) result }
 {
     if tables.is_op(f)
         && tables.is_op(g)
@@ -60,7 +61,8 @@ fn branch_move(tables: &Tables, known: &Known, f: u32, g: u32) -> Move
 
 fn dead_move(tables: &Tables, known: &Known, f: u32, g: u32) -> Move
     requires { IsFine (problem_of tables.now) known.now }
-    ensures { (version bound : ℕ) → DoesMove (problem_of tables.now) version bound (knows tables.now known.now) (Dead f g) result }
+    ensures { (version bound : ℕ) → DoesMove (problem_of tables.now) version bound (knows tables.now known.now)
+        (Dead f g) result }
 {
     if f < g && known.has(tables, Fact::Same(f, g)) && known.has(tables, Fact::Apart(f, g)) {
         Move::Close
@@ -71,7 +73,8 @@ fn dead_move(tables: &Tables, known: &Known, f: u32, g: u32) -> Move
 
 fn worth_move(tables: &Tables, known: &Known, bound: u64, charges: &Charges) -> Move
     requires { IsFine (problem_of tables.now) known.now }
-    ensures { (version : ℕ) → DoesMove (problem_of tables.now) version bound (knows tables.now known.now) (Worth charges.now) result }
+    ensures { (version : ℕ) → DoesMove (problem_of tables.now) version bound (knows tables.now known.now)
+        (Worth charges.now) result }
 {
     if !is_leaf(tables, known, charges) {
         return Move::Wrong(Reject::BadLeaf);

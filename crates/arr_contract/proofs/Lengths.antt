@@ -7,7 +7,6 @@ use Rattle.std.proofs.lemmas.List.{length-drop, take_all}
 use Rattle.arr_view.specs.Views.{positions}
 use Rattle.arr_view.proofs.Counting.{some_position, value_more}
 use Rattle.arr_ops.proofs.Lengths.{positions_at}
-use Rattle.arr_ops.proofs.Tests.{both_left, both_right}
 
 pub behind : (ns : List ℕ) (axis : ℕ) → take (length ns - (axis + 1)) (drop (axis + 1) ns) ≡ drop (suc axis) ns
 behind ns axis =

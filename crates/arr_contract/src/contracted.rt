@@ -17,7 +17,9 @@ pub(crate) fn frees(block: &[Op], base: u32) -> bool
 
 /// Takes up the base that an operation creates, if the block frees it.
 fn push_contracted(found: &mut Vec<u32>, op: &Op, block: &[Op]) -> Result<(), NoMemory>
-    ensures { IfOk result (λ done. found.new.items ≡ found.old.items ++ filter (freed_by block.now) (map (λ o. o.base) (filter (λ _. op.now.makes) (outputs op.now)))) }
+    ensures { IfOk result (λ done. found.new.items
+        ≡ found.old.items ++ filter (freed_by block.now)
+        (map (λ o. o.base) (filter (λ _. op.now.makes) (outputs op.now)))) }
 {
     if op.makes {
         if let Some(out) = &op.out {

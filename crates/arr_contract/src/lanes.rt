@@ -51,7 +51,8 @@ fn constant_lane(
 /// The lane of the second operand of an operation; an exponent has none.
 fn second_lane(alloc: Global, op: &Op, room: usize) -> Result<Buffer, NoMemory>
     requires { well_formed op.now ≡ true }
-    ensures { IfOk result (λ lane. cell_of lane ≡ constant_cell op.now.from room (kept_second op.now.code op.now.second)) }
+    ensures { IfOk result (λ lane. cell_of lane
+        ≡ constant_cell op.now.from room (kept_second op.now.code op.now.second)) }
 {
     match op.code {
         Code::Power => filled_lane(alloc, op.from, 0, 0),
@@ -67,7 +68,8 @@ fn push_constants(
     lanes: &mut Vec<Buffer>,
 ) -> Result<(), NoMemory>
     requires { well_formed op.now ≡ true }
-    ensures { IfOk result (λ done. map cell_of lanes.new.items ≡ map cell_of lanes.old.items ++ constant_cells room op.now) }
+    ensures { IfOk result (λ done. map cell_of lanes.new.items
+        ≡ map cell_of lanes.old.items ++ constant_cells room op.now) }
 {
     lanes.push(constant_lane(alloc, op.from, &op.first, room)?)?;
     lanes.push(second_lane(alloc, op, room)?)?;

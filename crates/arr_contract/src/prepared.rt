@@ -238,15 +238,20 @@ impl Prepared {
         requires saves { store.old.stores < 2 ^ 61 }
         ensures walks { (m : Memory) (start : ℕ → Option Slot) → fits m self.old.ops ≡ true
             → Walks self.old.ops m start 0 (cells store.old) self.old.numbers (slots_of slots.old)
-            → Walks self.old.ops m start (block_positions self.old.ops) (cells store.new) self.new.numbers (slots_of slots.new) }
+            → Walks self.old.ops m start (block_positions self.old.ops) (cells store.new) self.new.numbers
+            (slots_of slots.new) }
         ensures same { (b : ℕ) → outline (cells store.new b) ≡ outline (cells store.old b) }
         ensures ops { self.new.ops ≡ self.old.ops }
         ensures long { length self.new.numbers ≡ length self.old.numbers }
         ensures kept { TypedKept self.old.ops self.new.numbers }
         ensures slots { SlotsMatch self.old.ops (slots_of slots.new) }
         ensures made { store.new.made ≡ store.old.made }
-        ensures loads { store.new.loads ≡ store.old.loads + block_positions self.old.ops * total (λ v. width_at (cells store.old v.base)) (reads self.old.ops) }
-        ensures saves { store.new.stores ≡ store.old.stores + block_positions self.old.ops * total (λ v. width_at (cells store.old v.base)) (stores self.old.ops) }
+        ensures loads { store.new.loads
+            ≡ store.old.loads + block_positions self.old.ops * total (λ v. width_at (cells store.old v.base))
+            (reads self.old.ops) }
+        ensures saves { store.new.stores
+            ≡ store.old.stores + block_positions self.old.ops * total (λ v. width_at (cells store.old v.base))
+            (stores self.old.ops) }
     {
         self.machine.walk(
             self.ops.as_slice(),
@@ -270,7 +275,8 @@ impl Prepared {
         ensures same { self.new ≡ self.old }
         ensures bases { cells store.new ≡ put_at out.now.base (elements out.now)
             (read (cells store.old out.now.base) (elements input.now)) (cells store.old) }
-        ensures loads { store.new.loads ≡ store.old.loads + positions out.now.lengths * width_at (cells store.old out.now.base) }
+        ensures loads { store.new.loads
+            ≡ store.old.loads + positions out.now.lengths * width_at (cells store.old out.now.base) }
         ensures saves { store.new.stores
             ≡ store.old.stores + positions out.now.lengths * width_at (cells store.old out.now.base) }
         ensures made { store.new.made ≡ store.old.made }

@@ -22,7 +22,8 @@ fn collides(
     input: Option<&View>,
     reduces: bool,
 ) -> Result<bool, NoMemory>
-    ensures { IfOk result (λ r. r ≡ list_any (λ v. overlap out.now v && (reduces || not (identical out.now v))) (option_to_list (option_map (λ v. v.now) input.entry))) }
+    ensures { IfOk result (λ r. r ≡ list_any (λ v. overlap out.now v && (reduces || not (identical out.now v)))
+        (option_to_list (option_map (λ v. v.now) input.entry))) }
 {
     match input {
         Some(view) => {
@@ -110,7 +111,8 @@ fn axis_length(op: &Op) -> u64
 
 /// The numbers of a reduction's or a serial operation's results.
 fn kept_results(alloc: Global, op: &Op) -> Result<u64, NoMemory>
-    ensures value { IfOk result (λ kept. kept ≡ cond (is_reduction op.now.code || serial op.now) (out_positions op.now) 0) }
+    ensures value { IfOk result (λ kept. kept
+        ≡ cond (is_reduction op.now.code || serial op.now) (out_positions op.now) 0) }
     ensures few { IfOk result (λ kept. kept ≤ 1048576) }
 {
     if op.code.is_reduction() {

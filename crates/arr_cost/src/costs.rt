@@ -189,7 +189,8 @@ impl Costs {
     /// What one block in place of two saves, in bytes, told what each of the two touches: the same as `saving`, and quick
     /// (docs/PLANS.md, "Cost"). It takes no memory.
     pub fn joint_saving(&self, a: &Footprint, b: &Footprint) -> u64
-        ensures { (x y : List ℕ) → IsFootprint self.now x a.now → IsFootprint self.now y b.now → Saves self.now x y result }
+        ensures { (x y : List ℕ) → IsFootprint self.now x a.now → IsFootprint self.now y b.now
+            → Saves self.now x y result }
     {
         a.saving(self.weights.as_slice(), b)
     }

@@ -155,7 +155,8 @@ pub(crate) fn touched_weight(
     requires few { length table.now ≤ 257 }
     requires none { get_or table.now 0 untouched ≡ untouched }
     requires below { All (λ t. IsTrue (is_below (3 * length table.now) t)) table.now }
-    ensures value { IfOk result (λ sum. (list : List Op) → table.now ≡ table_of list → sum ≡ block_cost list block.now) }
+    ensures value { IfOk result (λ sum. (list : List Op) → table.now ≡ table_of list → sum
+        ≡ block_cost list block.now) }
     ensures small { IfOk result (λ sum. sum ≤ 771 * 8388608) }
 {
     let bound = 3 * table.len();

@@ -51,7 +51,8 @@ fn meets_any(classes: &Classes, out: Option<u32>, other: &Classed) -> bool
     requires other_out { IsTrue (within (length classes.now) other.now.out) }
     requires first { IsTrue (within (length classes.now) other.now.first) }
     requires second { IsTrue (within (length classes.now) other.now.second) }
-    ensures { result ≡ ((meet classes.now out other.now.out || meet classes.now out other.now.first) || meet classes.now out other.now.second) }
+    ensures { result
+        ≡ ((meet classes.now out other.now.out || meet classes.now out other.now.first) || meet classes.now out other.now.second) }
 {
     meet(classes, out, other.out)
         || meet(classes, out, other.first)
@@ -64,7 +65,8 @@ fn crosses_any(classes: &Classes, never: bool, out: Option<u32>, other: &Classed
     requires other_out { IsTrue (within (length classes.now) other.now.out) }
     requires first { IsTrue (within (length classes.now) other.now.first) }
     requires second { IsTrue (within (length classes.now) other.now.second) }
-    ensures { result ≡ ((cross classes.now never out other.now.out || cross classes.now never out other.now.first) || cross classes.now never out other.now.second) }
+    ensures { result
+        ≡ ((cross classes.now never out other.now.out || cross classes.now never out other.now.first) || cross classes.now never out other.now.second) }
 {
     cross(classes, never, out, other.out)
         || cross(classes, never, out, other.first)

@@ -86,7 +86,8 @@ impl Bases {
     /// Makes a base of so many elements, for which no name stands.
     pub(crate) fn make(&mut self, count: u32) -> Result<(), NoMemory>
         requires { live_by self.old.first 0 self.old.list + count ≤ most_live }
-        ensures made { OnOk result (self.new ≡ record { list = self.old.list ++ (record { length = count; names = 0 }) ∷ []; first = self.old.first }) }
+        ensures made { OnOk result (self.new
+            ≡ record { list = self.old.list ++ (record { length = count; names = 0 }) ∷ []; first = self.old.first }) }
         ensures unchanged { OnErr result (self.new ≡ self.old) }
     {
         let _live = self.live;

@@ -20,7 +20,12 @@ use arr_tree::{Kind, Place};
 
 /// An operation of two operands of one type.
 fn paired(at: Place, code: Code, elem: Elem, shape: ArrayShape, x: Operand, y: Operand) -> Prepared
-    ensures { result ≡ Open (record { at = at; shape = shape; op = spec.operation code (type_of_result code elem) elem (Some x) (Some y) None }) }
+    ensures { result ≡ Open (record {
+      at = at;
+      shape = shape;
+      op = spec.operation code (type_of_result code elem) elem
+          (Some x) (Some y) None;
+    }) }
 {
     let to = result_type(code, elem);
     pending(at, shape, operation(code, to, elem, Some(x), Some(y), None))

@@ -99,7 +99,8 @@ fn statements(alloc: Global, reader: &mut Reader, mut rest: &[Statement]) -> Res
 /// target that has an element twice, or too many names (docs/LANGUAGE.md, "Refusals"). Want of memory is the only other answer.
 pub fn elaborate(alloc: Global, script: &Script) -> Result<Vec<Step>, ElabFault>
     ensures steps { IfOk result (λ steps. spec.outcome script.now.statements ≡ Ok steps.items) }
-    ensures refused { IfErr result (λ fault. (r : Refusal) → fault ≡ Refused r → spec.outcome script.now.statements ≡ Err r) }
+    ensures refused { IfErr result
+        (λ fault. (r : Refusal) → fault ≡ Refused r → spec.outcome script.now.statements ≡ Err r) }
     // What the steps keep to.
     ensures recording { IfOk result (λ steps. is_recording steps.items ≡ true) }
 {

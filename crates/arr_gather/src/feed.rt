@@ -29,10 +29,12 @@ impl Feed {
         requires some { 1 ≤ length (to_come (cells store.old) position self.old) }
         requires inside { Inside (cells store.old) self.old }
         requires loads { store.old.loads < 2 ^ 62 }
-        ensures number { to_come (cells store.old) position self.old ≡ result ∷ to_come (cells store.old) (position + 1) self.new }
+        ensures number { to_come (cells store.old) position self.old
+            ≡ result ∷ to_come (cells store.old) (position + 1) self.new }
         ensures inside { Inside (cells store.old) self.new }
         ensures apart { (b : ℕ) → IsApart b self.old → IsApart b self.new }
-        ensures loads { store.new.loads + owed (cells store.old) self.new ≡ store.old.loads + owed (cells store.old) self.old }
+        ensures loads { store.new.loads + owed (cells store.old) self.new
+            ≡ store.old.loads + owed (cells store.old) self.old }
         ensures bases { store.new.bases ≡ store.old.bases }
         ensures stores { store.new.stores ≡ store.old.stores }
         ensures made { store.new.made ≡ store.old.made }
@@ -52,7 +54,8 @@ fn copied(alloc: Global, view: &View, store: &mut Store) -> Result<Vec<i128>, No
     requires inside { Inside (cells store.old) (Feed.Kept view.now.base (elements view.now)) }
     requires loads { store.old.loads + owed (cells store.old) (Feed.Kept view.now.base (elements view.now)) ≤ 2 ^ 62 }
     ensures numbers { IfOk result (λ v. v.items ≡ numbers_at (cells store.old) view.now) }
-    ensures loads { IfOk result (λ v. store.new.loads ≡ store.old.loads + owed (cells store.old) (Feed.Kept view.now.base (elements view.now))) }
+    ensures loads { IfOk result (λ v. store.new.loads
+        ≡ store.old.loads + owed (cells store.old) (Feed.Kept view.now.base (elements view.now))) }
     ensures bases { store.new.bases ≡ store.old.bases }
     ensures stores { store.new.stores ≡ store.old.stores }
     ensures made { store.new.made ≡ store.old.made }
@@ -77,7 +80,8 @@ pub(crate) fn feed_of(
     requires loads { store.old.loads + weight_of ty view.now ≤ 2 ^ 62 }
     ensures numbers { IfOk result (λ feed. to_come (cells store.old) 0 feed ≡ numbers_at (cells store.old) view.now) }
     ensures feeds { IfOk result (λ feed. Feeds (cells store.old) written (positions view.now.lengths) 0 feed) }
-    ensures loads { IfOk result (λ feed. store.new.loads + owed (cells store.old) feed ≡ store.old.loads + weight_of ty view.now) }
+    ensures loads { IfOk result (λ feed. store.new.loads + owed (cells store.old) feed
+        ≡ store.old.loads + weight_of ty view.now) }
     ensures bases { store.new.bases ≡ store.old.bases }
     ensures stores { store.new.stores ≡ store.old.stores }
     ensures made { store.new.made ≡ store.old.made }

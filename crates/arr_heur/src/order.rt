@@ -138,7 +138,8 @@ fn first_ready(graph: &Graph, blocks: &[Vec<u32>], left: &[usize]) -> Option<usi
     requires left_in { All (λ k. k < length blocks.now) left.now }
     requires inside { AllNumbersTo (length graph.now) blocks.now }
     requires ascending { AllAscend blocks.now }
-    ensures first { option_map (block_in (lists_of blocks.now)) result ≡ first_ready graph.now (blocks_at blocks.now left.now) }
+    ensures first { option_map (block_in (lists_of blocks.now)) result
+        ≡ first_ready graph.now (blocks_at blocks.now left.now) }
     ensures below { IsTrue (found_below (length blocks.now) result) }
 {
     let mut found = None;

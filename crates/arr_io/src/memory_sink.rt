@@ -34,7 +34,8 @@ impl MemorySink {
         fails: Vec<u64>,
     ) -> Result<MemorySink, NoMemory>
         requires { 0 < piece }
-        ensures { IfOk result (λ sink. (sink.bytes.items ≡ []) × (sink.room ≡ room) × (sink.piece ≡ piece) × (sink.calls ≡ 0)
+        ensures { IfOk result (λ sink. (sink.bytes.items ≡ []) × (sink.room ≡ room) × (sink.piece ≡ piece)
+            × (sink.calls ≡ 0)
             × (sink.fails.items ≡ fails.items) × (sink.failed ≡ 0)) }
     {
         Ok(MemorySink {
@@ -61,7 +62,8 @@ impl Sink for MemorySink {
         ensures called { self.new.calls ≡ min (self.old.calls + 1) (2 ^ 64 - 1) }
         ensures fails { IsErr result ↔ (Contains self.old.fails.items self.new.calls
             ⊎ ((self.old.room ≡ vec_len self.old.bytes) × (0 < length from.now))) }
-        ensures count { IfOk result (λ n. n ≡ min self.old.piece (min (length from.now) (self.old.room - vec_len self.old.bytes))) }
+        ensures count { IfOk result (λ n. n
+            ≡ min self.old.piece (min (length from.now) (self.old.room - vec_len self.old.bytes))) }
         ensures room { self.new.room ≡ self.old.room }
         ensures piece { self.new.piece ≡ self.old.piece }
         ensures failing { self.new.fails.items ≡ self.old.fails.items }

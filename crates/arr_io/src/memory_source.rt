@@ -31,11 +31,13 @@ impl Source for MemorySource {
     #[tactic(auto, using(crate::proofs::Pieces::front_taken, crate::proofs::Pieces::none_left))]
     fn read(&mut self, into: &mut [u8]) -> Result<usize, Failed>
         ensures bound { ReadsAtMost result into.new }
-        ensures bytes { ReadConsumes (Some (drop self.old.at self.old.bytes.items)) (Some (drop self.new.at self.new.bytes.items)) result into.new }
+        ensures bytes { ReadConsumes (Some (drop self.old.at self.old.bytes.items))
+            (Some (drop self.new.at self.new.bytes.items)) result into.new }
         ensures cause { HasCause self.old.failed self.new.failed result }
         ensures called { self.new.calls ≡ min (self.old.calls + 1) (2 ^ 64 - 1) }
         ensures fails { IsErr result ↔ Contains self.old.fails.items self.new.calls }
-        ensures count { IfOk result (λ n. n ≡ min self.old.piece (min (length into.old) (vec_len self.old.bytes - self.old.at))) }
+        ensures count { IfOk result (λ n. n
+            ≡ min self.old.piece (min (length into.old) (vec_len self.old.bytes - self.old.at))) }
         ensures kept { self.new.bytes.items ≡ self.old.bytes.items }
         ensures piece { self.new.piece ≡ self.old.piece }
         ensures failing { self.new.fails.items ≡ self.old.fails.items }

@@ -67,7 +67,8 @@ pub fn read_all<S: Source>(
     limit: u64,
 ) -> Result<Vec<u8>, ReadFailure>
     requires { limit ≤ 67_108_864 }
-    ensures all { IfOk result (λ bytes. Consumes (S.left source.old) (S.left source.new) bytes.items × IsAtEnd (S.left source.new)) }
+    ensures all { IfOk result (λ bytes. Consumes (S.left source.old) (S.left source.new) bytes.items
+        × IsAtEnd (S.left source.new)) }
     ensures within { IfOk result (λ bytes. vec_len bytes ≤ limit) }
     ensures too_long { IsErrOf result ReadFailure.TooLong → HadMoreThan (S.left source.old) limit }
     ensures taken { TakesAtMost (S.left source.old) (S.left source.new) (limit + 1) }

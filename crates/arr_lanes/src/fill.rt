@@ -36,7 +36,8 @@ pub(crate) fn fill_arithmetic<T: Lane>(
     requires first { IsLane T.elem strip.room (slice_get lanes.now first) }
     requires second { IsLane T.elem strip.room (slice_get lanes.now second) }
     ensures length { length out.new.items ≡ length out.old.items }
-    ensures each { (i : ℕ) → i < strip.count → entry T.number out.new.items i ≡ value code T.elem (number lanes.now first i) (number lanes.now second i) }
+    ensures each { (i : ℕ) → i < strip.count → entry T.number out.new.items i
+        ≡ value code T.elem (number lanes.now first i) (number lanes.now second i) }
 {
     let a = numbers_of(lanes, first, strip.room);
     let b = numbers_of(lanes, second, strip.room);
@@ -58,7 +59,8 @@ pub(crate) fn fill_comparison<T: Lane>(
     requires first { IsLane T.elem strip.room (slice_get lanes.now first) }
     requires second { IsLane T.elem strip.room (slice_get lanes.now second) }
     ensures length { length out.new.items ≡ length out.old.items }
-    ensures each { (i : ℕ) → i < strip.count → entry pos out.new.items i ≡ value code Elem.U8 (number lanes.now first i) (number lanes.now second i) }
+    ensures each { (i : ℕ) → i < strip.count → entry pos out.new.items i
+        ≡ value code Elem.U8 (number lanes.now first i) (number lanes.now second i) }
 {
     let a: &[T] = numbers_of(lanes, first, strip.room);
     let b: &[T] = numbers_of(lanes, second, strip.room);
@@ -77,7 +79,8 @@ pub(crate) fn fill_power<T: Lane>(
     requires within { strip.count ≤ strip.room }
     requires first { IsLane T.elem strip.room (slice_get lanes.now first) }
     ensures length { length out.new.items ≡ length out.old.items }
-    ensures each { (i : ℕ) → i < strip.count → entry T.number out.new.items i ≡ value Code.Power T.elem (number lanes.now first i) (pos exponent) }
+    ensures each { (i : ℕ) → i < strip.count → entry T.number out.new.items i
+        ≡ value Code.Power T.elem (number lanes.now first i) (pos exponent) }
 {
     raise(
         out.as_mut_slice(),
@@ -98,7 +101,8 @@ pub(crate) fn fill_conversion<T: Lane, U: Lane>(
     requires within { strip.count ≤ strip.room }
     requires first { IsLane T.elem strip.room (slice_get lanes.now first) }
     ensures length { length out.new.items ≡ length out.old.items }
-    ensures each { (i : ℕ) → i < strip.count → entry U.number out.new.items i ≡ value Code.Identity U.elem (number lanes.now first i) (pos 0) }
+    ensures each { (i : ℕ) → i < strip.count → entry U.number out.new.items i
+        ≡ value Code.Identity U.elem (number lanes.now first i) (pos 0) }
 {
     let a: &[T] = numbers_of(lanes, first, strip.room);
     convert(out.as_mut_slice(), a, strip.count);
@@ -109,7 +113,8 @@ pub(crate) fn fill_positions<T: Lane>(out: &mut Vec<T>, strip: Strip)
     requires out { strip.count ≤ length out.old.items }
     requires few { strip.position + strip.count ≤ 1048576 }
     ensures length { length out.new.items ≡ length out.old.items }
-    ensures each { (i : ℕ) → i < strip.count → entry T.number out.new.items i ≡ value Code.Range T.elem (pos (strip.position + i)) (pos 0) }
+    ensures each { (i : ℕ) → i < strip.count → entry T.number out.new.items i
+        ≡ value Code.Range T.elem (pos (strip.position + i)) (pos 0) }
 {
     count_up(out.as_mut_slice(), strip.position, strip.count);
 }

@@ -42,7 +42,8 @@ pub fn run_line(line: Line, lanes: &mut [Buffer], spares: &mut Spares, strip: St
     requires spares { HasRoom strip.room spares.old }
     requires within { strip.count ≤ strip.room }
     requires few { strip.position + strip.count ≤ 1048576 }
-    ensures lanes { Becomes line.to strip.room strip.count line.dest (λ i. line_value (strip.position + i) (registers lanes.old i) (shown line)) lanes.old lanes.new }
+    ensures lanes { Becomes line.to strip.room strip.count line.dest
+        (λ i. line_value (strip.position + i) (registers lanes.old i) (shown line)) lanes.old lanes.new }
     ensures spares { HasRoom strip.room spares.new }
 {
     match line.to {
@@ -60,7 +61,8 @@ fn run_bytes(line: Line, lanes: &mut [Buffer], spare: &mut Vec<u8>, strip: Strip
     requires spare { strip.room ≤ length spare.old.items }
     requires within { strip.count ≤ strip.room }
     requires few { strip.position + strip.count ≤ 1048576 }
-    ensures lanes { Becomes line.to strip.room strip.count line.dest (λ i. line_value (strip.position + i) (registers lanes.old i) (shown line)) lanes.old lanes.new }
+    ensures lanes { Becomes line.to strip.room strip.count line.dest
+        (λ i. line_value (strip.position + i) (registers lanes.old i) (shown line)) lanes.old lanes.new }
     ensures spare { strip.room ≤ length spare.new.items }
 {
     match line.work {
@@ -80,7 +82,8 @@ fn run_typed<T: Lane>(line: Line, lanes: &mut [Buffer], spare: &mut Vec<T>, stri
     requires spare { strip.room ≤ length spare.old.items }
     requires within { strip.count ≤ strip.room }
     requires few { strip.position + strip.count ≤ 1048576 }
-    ensures lanes { Becomes line.to strip.room strip.count line.dest (λ i. line_value (strip.position + i) (registers lanes.old i) (shown line)) lanes.old lanes.new }
+    ensures lanes { Becomes line.to strip.room strip.count line.dest
+        (λ i. line_value (strip.position + i) (registers lanes.old i) (shown line)) lanes.old lanes.new }
     ensures spare { strip.room ≤ length spare.new.items }
 {
     fill(spare, lanes, line.work, strip);
@@ -95,7 +98,8 @@ fn fill<T: Lane>(out: &mut Vec<T>, lanes: &[Buffer], work: Work, strip: Strip)
     requires within { strip.count ≤ strip.room }
     requires few { strip.position + strip.count ≤ 1048576 }
     ensures length { length out.new.items ≡ length out.old.items }
-    ensures each { (i : ℕ) → i < strip.count → entry T.number out.new.items i ≡ line_value (strip.position + i) (registers lanes.now i) (shown_work work T.elem 0) }
+    ensures each { (i : ℕ) → i < strip.count → entry T.number out.new.items i
+        ≡ line_value (strip.position + i) (registers lanes.now i) (shown_work work T.elem 0) }
 {
     match work {
         Work::Arithmetic(code, first, second) => {
@@ -114,7 +118,8 @@ fn convert_lane<T: Lane>(out: &mut Vec<T>, lanes: &[Buffer], from: Elem, first: 
     requires first { IsLane from strip.room (slice_get lanes.now first) }
     requires within { strip.count ≤ strip.room }
     ensures length { length out.new.items ≡ length out.old.items }
-    ensures each { (i : ℕ) → i < strip.count → entry T.number out.new.items i ≡ value Code.Identity T.elem (number lanes.now first i) (pos 0) }
+    ensures each { (i : ℕ) → i < strip.count → entry T.number out.new.items i
+        ≡ value Code.Identity T.elem (number lanes.now first i) (pos 0) }
 {
     match from {
         Elem::U8 => fill_conversion::<u8, T>(out, lanes, first, strip),
@@ -140,7 +145,8 @@ fn compare_lanes(
     requires second { IsLane from strip.room (slice_get lanes.now second) }
     requires within { strip.count ≤ strip.room }
     ensures length { length out.new.items ≡ length out.old.items }
-    ensures each { (i : ℕ) → i < strip.count → entry pos out.new.items i ≡ value code Elem.U8 (number lanes.now first i) (number lanes.now second i) }
+    ensures each { (i : ℕ) → i < strip.count → entry pos out.new.items i
+        ≡ value code Elem.U8 (number lanes.now first i) (number lanes.now second i) }
 {
     match from {
         Elem::U8 => fill_comparison::<u8>(out, lanes, code, first, second, strip),

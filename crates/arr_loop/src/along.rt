@@ -103,7 +103,8 @@ pub(crate) fn scan_result(
     requires fits { op_fits (memory_of store.old) (op.now ∷ []) op.now ≡ true }
     requires there { position < count op.now }
     requires enough { position ≤ length prepared.now.numbers }
-    requires earlier { (q : ℕ) → q < position → get_or prepared.now.numbers q (pos 0) ≡ get_or (computed (memory_of store.old) op.now) q (pos 0) }
+    requires earlier { (q : ℕ) → q < position → get_or prepared.now.numbers q (pos 0)
+        ≡ get_or (computed (memory_of store.old) op.now) q (pos 0) }
     requires room { store.old.loads < 2 ^ 62 }
     ensures value { result ≡ get_or (computed (memory_of store.old) op.now) position (pos 0) }
     ensures loads { store.new.loads ≡ store.old.loads + loads_each op.now }

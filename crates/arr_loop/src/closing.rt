@@ -36,8 +36,10 @@ fn drop_base(op: &Op, contracted: &[u32], store: &mut Store)
 
 /// Drops the bases that a block frees; those that it creates too have no buffer.
 pub(crate) fn drop_freed(prepared: &Prepared, store: &mut Store)
-    requires there { (b : ℕ) → freed_by prepared.now.ops b ≡ true → creates prepared.now.ops b ≡ false → IsSome (cells store.old b) }
-    requires absent { (b : ℕ) → freed_by prepared.now.ops b ≡ true → creates prepared.now.ops b ≡ true → cells store.old b ≡ None }
+    requires there { (b : ℕ) → freed_by prepared.now.ops b ≡ true → creates prepared.now.ops b ≡ false
+        → IsSome (cells store.old b) }
+    requires absent { (b : ℕ) → freed_by prepared.now.ops b ≡ true → creates prepared.now.ops b ≡ true
+        → cells store.old b ≡ None }
     ensures bases { (b : ℕ) → cells store.new b ≡ cond (freed_by prepared.now.ops b) None (cells store.old b) }
     ensures loads { store.new.loads ≡ store.old.loads }
     ensures stores { store.new.stores ≡ store.old.stores }

@@ -58,7 +58,8 @@ fn operand_number(source: &Option<Operand>, position: u32, store: &mut Store) ->
     requires there { list_all (λ v. nat_lt position (positions v.lengths)) (view_of source.now) ≡ true }
     requires room { store.old.loads < 2 ^ 62 }
     ensures number { result ≡ taken (row_at (cells store.old) position) source.now }
-    ensures loads { store.new.loads ≡ store.old.loads + total (λ v. width_at (cells store.old v.base)) (view_of source.now) }
+    ensures loads { store.new.loads
+        ≡ store.old.loads + total (λ v. width_at (cells store.old v.base)) (view_of source.now) }
     ensures bases { store.new.bases ≡ store.old.bases }
     ensures stores { store.new.stores ≡ store.old.stores }
     ensures made { store.new.made ≡ store.old.made }
@@ -77,7 +78,8 @@ fn first_number(op: &Op, position: u32, store: &mut Store) -> i128
     requires there { list_all (λ v. nat_lt position (positions v.lengths)) (view_of op.now.first) ≡ true }
     requires room { store.old.loads < 2 ^ 62 }
     ensures number { result ≡ first_taken op.now.code position (row_at (cells store.old) position) op.now.first }
-    ensures loads { store.new.loads ≡ store.old.loads + total (λ v. width_at (cells store.old v.base)) (view_of op.now.first) }
+    ensures loads { store.new.loads
+        ≡ store.old.loads + total (λ v. width_at (cells store.old v.base)) (view_of op.now.first) }
     ensures bases { store.new.bases ≡ store.old.bases }
     ensures stores { store.new.stores ≡ store.old.stores }
     ensures made { store.new.made ≡ store.old.made }
@@ -96,7 +98,8 @@ fn second_number(op: &Op, shared: bool, left: i128, position: u32, store: &mut S
     requires there { list_all (λ v. nat_lt position (positions v.lengths)) (view_of op.now.second) ≡ true }
     requires room { store.old.loads < 2 ^ 62 }
     ensures number { result ≡ taken (row_at (cells store.old) position) op.now.second }
-    ensures loads { store.new.loads ≡ store.old.loads + cond shared 0 (total (λ v. width_at (cells store.old v.base)) (view_of op.now.second)) }
+    ensures loads { store.new.loads
+        ≡ store.old.loads + cond shared 0 (total (λ v. width_at (cells store.old v.base)) (view_of op.now.second)) }
     ensures bases { store.new.bases ≡ store.old.bases }
     ensures stores { store.new.stores ≡ store.old.stores }
     ensures made { store.new.made ≡ store.old.made }
@@ -147,7 +150,8 @@ fn result_at(
     requires fits { op_fits (memory_of store.old) (op.now ∷ []) op.now ≡ true }
     requires there { position < positions out.now.lengths }
     requires enough { position ≤ length prepared.now.numbers }
-    requires earlier { (q : ℕ) → q < position → get_or prepared.now.numbers q (pos 0) ≡ get_or (computed (memory_of store.old) op.now) q (pos 0) }
+    requires earlier { (q : ℕ) → q < position → get_or prepared.now.numbers q (pos 0)
+        ≡ get_or (computed (memory_of store.old) op.now) q (pos 0) }
     requires room { store.old.loads + 16777216 ≤ 2 ^ 62 }
     ensures value { result ≡ get_or (computed (memory_of store.old) op.now) position (pos 0) }
     ensures loads { store.new.loads ≡ store.old.loads + loads_each op.now }

@@ -22,10 +22,13 @@ pub(crate) fn has(bases: &[u32], base: u32) -> bool
 
 /// Makes the buffer of the base that an operation creates, unless it is a contracted one.
 fn open_base(alloc: Global, op: &Op, contracted: &[u32], store: &mut Store) -> Result<(), NoMemory>
-    requires absent { list_all (λ b. is_none (cells store.old b)) (filter (λ b. not (has contracted.now b)) (made_by op.now)) ≡ true }
+    requires absent { list_all (λ b. is_none (cells store.old b))
+        (filter (λ b. not (has contracted.now b)) (made_by op.now)) ≡ true }
     requires room { store.old.made < 2 ^ 62 }
-    ensures bases { OnOk result ((b : ℕ) → cells store.new b ≡ cond (has contracted.now b) (cells store.old b) (opened_by op.now b (cells store.old b))) }
-    ensures made { OnOk result (store.new.made ≡ store.old.made + length (filter (λ b. not (has contracted.now b)) (made_by op.now))) }
+    ensures bases { OnOk result ((b : ℕ) → cells store.new b
+        ≡ cond (has contracted.now b) (cells store.old b) (opened_by op.now b (cells store.old b))) }
+    ensures made { OnOk result (store.new.made
+        ≡ store.old.made + length (filter (λ b. not (has contracted.now b)) (made_by op.now))) }
     ensures one { OnOk result (store.new.made ≤ store.old.made + 1) }
     ensures loads { store.new.loads ≡ store.old.loads }
     ensures stores { store.new.stores ≡ store.old.stores }
@@ -53,7 +56,8 @@ pub fn open(alloc: Global, prepared: &Prepared, store: &mut Store) -> Result<(),
     requires room { store.old.made < 2 ^ 61 }
     ensures opened { OnOk result (OpenedFor prepared.now.ops prepared.now.ops store.old store.new) }
     ensures back { OnOk result (unopened prepared.now.ops (cells store.new) ≡ cells store.old) }
-    ensures refused { OnErr result ((n : ℕ) × OpenedFor prepared.now.ops (take n prepared.now.ops) store.old store.new) }
+    ensures refused { OnErr result
+        ((n : ℕ) × OpenedFor prepared.now.ops (take n prepared.now.ops) store.old store.new) }
 {
     let ops = prepared.ops();
     let contracted = prepared.contracted();

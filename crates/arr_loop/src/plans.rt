@@ -27,8 +27,10 @@ fn run_opened(prepared: &mut Prepared, store: &mut Store, slots: &mut Slots)
     requires open { IsOpen prepared.old.ops store.old slots.old }
     requires room { store.old.loads < 2 ^ 61 }
     requires room_stores { store.old.stores < 2 ^ 61 }
-    ensures bases { cells store.new ≡ (eager (before_open prepared.old.ops store.old slots.old) prepared.old.ops).bases }
-    ensures slots { slots_of slots.new ≡ (eager (before_open prepared.old.ops store.old slots.old) prepared.old.ops).slots }
+    ensures bases { cells store.new
+        ≡ (eager (before_open prepared.old.ops store.old slots.old) prepared.old.ops).bases }
+    ensures slots { slots_of slots.new
+        ≡ (eager (before_open prepared.old.ops store.old slots.old) prepared.old.ops).slots }
     ensures loads { store.new.loads ≡ store.old.loads + total (weight prepared.old.ops) (reads prepared.old.ops) }
     ensures stores { store.new.stores ≡ store.old.stores + total (weight prepared.old.ops) (writes prepared.old.ops) }
     ensures made { store.new.made ≡ store.old.made }
@@ -56,7 +58,8 @@ fn run_block(
     requires room { store.old.loads < 2 ^ 61 }
     requires room_stores { store.old.stores < 2 ^ 61 }
     requires room_made { store.old.made < 2 ^ 61 }
-    ensures memory { OnOk result (memory store.new slots.new ≡ eager (memory store.old slots.old) (ops_of (numbered ops.now) block.now)) }
+    ensures memory { OnOk result (memory store.new slots.new
+        ≡ eager (memory store.old slots.old) (ops_of (numbered ops.now) block.now)) }
     ensures loads { OnOk result (store.new.loads ≡ store.old.loads + read_bytes ops.now block.now) }
     ensures stores { OnOk result (store.new.stores ≡ store.old.stores + write_bytes ops.now block.now) }
     ensures made { OnOk result (store.new.made ≡ store.old.made + buffers_for ops.now block.now) }
@@ -92,8 +95,10 @@ fn run_blocks(
     requires room_made { store.old.made < 2 ^ 60 }
     ensures bases { OnOk result (cells store.new ≡ (eager (memory_of store.old) ops.now).bases) }
     ensures shown { OnOk result (slots_of slots.new ≡ (eager (memory_of store.old) ops.now).slots) }
-    ensures loads { OnOk result (store.new.loads ≡ store.old.loads + total (read_bytes ops.now) (map (λ b. b.items) blocks.now)) }
-    ensures stores { OnOk result (store.new.stores ≡ store.old.stores + total (write_bytes ops.now) (map (λ b. b.items) blocks.now)) }
+    ensures loads { OnOk result (store.new.loads
+        ≡ store.old.loads + total (read_bytes ops.now) (map (λ b. b.items) blocks.now)) }
+    ensures stores { OnOk result (store.new.stores
+        ≡ store.old.stores + total (write_bytes ops.now) (map (λ b. b.items) blocks.now)) }
     ensures made { OnOk result (store.new.made ≡ store.old.made + buffers ops.now (map (λ b. b.items) blocks.now)) }
 {
     for block in blocks {

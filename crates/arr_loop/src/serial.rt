@@ -27,10 +27,14 @@ use arr_view::View;
 fn write_out(out: &View, prepared: &Prepared, store: &mut Store)
     requires enough { positions out.now.lengths ≤ length prepared.now.numbers }
     requires inside { lie_inside (elements out.now) (cells store.old out.now.base) ≡ true }
-    requires typed { list_all (takes (cells store.old out.now.base)) (take (positions out.now.lengths) prepared.now.numbers) ≡ true }
+    requires typed { list_all (takes (cells store.old out.now.base))
+        (take (positions out.now.lengths) prepared.now.numbers) ≡ true }
     requires room { store.old.stores + 8388608 ≤ 2 ^ 62 }
-    ensures bases { cells store.new ≡ written (cells store.old) out.now.base (elements out.now) (take (positions out.now.lengths) prepared.now.numbers) }
-    ensures stores { store.new.stores ≡ store.old.stores + positions out.now.lengths * width_at (cells store.old out.now.base) }
+    ensures bases { cells store.new
+        ≡ written (cells store.old) out.now.base (elements out.now)
+        (take (positions out.now.lengths) prepared.now.numbers) }
+    ensures stores { store.new.stores
+        ≡ store.old.stores + positions out.now.lengths * width_at (cells store.old out.now.base) }
     ensures loads { store.new.loads ≡ store.old.loads }
     ensures made { store.new.made ≡ store.old.made }
 {
@@ -51,7 +55,9 @@ fn move_on(op: &Op, out: &View, prepared: &mut Prepared, store: &mut Store)
     ensures bases { cells store.new ≡ cond (freed_by prepared.old.ops out.now.base) (cells store.old)
         (written (cells store.old) out.now.base (elements out.now) (computed (memory_of store.old) op.now)) }
     ensures loads { store.new.loads ≡ store.old.loads + positions out.now.lengths * loads_each op.now }
-    ensures stores { store.new.stores ≡ store.old.stores + cond (freed_by prepared.old.ops out.now.base) 0 (positions out.now.lengths * width op.now.to) }
+    ensures stores { store.new.stores
+        ≡ store.old.stores + cond (freed_by prepared.old.ops out.now.base) 0
+        (positions out.now.lengths * width op.now.to) }
     ensures made { store.new.made ≡ store.old.made }
     ensures same { prepared.new ≡ prepared.old }
 {
@@ -73,7 +79,9 @@ fn fill(op: &Op, out: &View, prepared: &mut Prepared, store: &mut Store)
     ensures bases { cells store.new ≡ cond (freed_by prepared.old.ops out.now.base) (cells store.old)
         (written (cells store.old) out.now.base (elements out.now) (computed (memory_of store.old) op.now)) }
     ensures loads { store.new.loads ≡ store.old.loads + positions out.now.lengths * loads_each op.now }
-    ensures stores { store.new.stores ≡ store.old.stores + cond (freed_by prepared.old.ops out.now.base) 0 (positions out.now.lengths * width op.now.to) }
+    ensures stores { store.new.stores
+        ≡ store.old.stores + cond (freed_by prepared.old.ops out.now.base) 0
+        (positions out.now.lengths * width op.now.to) }
     ensures made { store.new.made ≡ store.old.made }
     ensures ops { prepared.new.ops ≡ prepared.old.ops }
     ensures long { length prepared.new.numbers ≡ length prepared.old.numbers }
@@ -98,8 +106,10 @@ pub fn run_serial(prepared: &mut Prepared, store: &mut Store, slots: &mut Slots)
     requires open { IsOpen prepared.old.ops store.old slots.old }
     requires room { store.old.loads < 2 ^ 61 }
     requires room_stores { store.old.stores < 2 ^ 61 }
-    ensures bases { cells store.new ≡ (eager (before_open prepared.old.ops store.old slots.old) prepared.old.ops).bases }
-    ensures slots { slots_of slots.new ≡ (eager (before_open prepared.old.ops store.old slots.old) prepared.old.ops).slots }
+    ensures bases { cells store.new
+        ≡ (eager (before_open prepared.old.ops store.old slots.old) prepared.old.ops).bases }
+    ensures slots { slots_of slots.new
+        ≡ (eager (before_open prepared.old.ops store.old slots.old) prepared.old.ops).slots }
     ensures loads { store.new.loads ≡ store.old.loads + total (weight prepared.old.ops) (reads prepared.old.ops) }
     ensures stores { store.new.stores ≡ store.old.stores + total (weight prepared.old.ops) (writes prepared.old.ops) }
     ensures made { store.new.made ≡ store.old.made }

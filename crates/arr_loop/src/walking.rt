@@ -31,7 +31,8 @@ fn write_sum(op: &Op, place: usize, prepared: &Prepared, store: &mut Store)
     requires room { store.old.stores < 2 ^ 62 }
     ensures bases { cells store.new ≡ put_out (kept prepared.now.ops (folds_to op.now))
         (map (sum_kept prepared.now.ops prepared.now.numbers place) (range_with_len 0 (count op.now))) (cells store.old) }
-    ensures stores { store.new.stores ≡ store.old.stores + total (weight prepared.now.ops) (sum_views prepared.now.ops op.now) }
+    ensures stores { store.new.stores
+        ≡ store.old.stores + total (weight prepared.now.ops) (sum_views prepared.now.ops op.now) }
     ensures loads { store.new.loads ≡ store.old.loads }
     ensures made { store.new.made ≡ store.old.made }
 {
@@ -53,8 +54,11 @@ fn write_sums(prepared: &Prepared, store: &mut Store)
     requires there { AllByRecursion (IsThere prepared.now.ops (cells store.old)) (fold_stores prepared.now.ops) }
     requires kept { TypedKept prepared.now.ops prepared.now.numbers }
     requires room { store.old.stores + total (weight prepared.now.ops) (fold_stores prepared.now.ops) < 2 ^ 62 }
-    ensures bases { cells store.new ≡ closed_by prepared.now.ops 0 prepared.now.ops (sum_kept prepared.now.ops prepared.now.numbers) (cells store.old) }
-    ensures stores { store.new.stores ≡ store.old.stores + total (weight prepared.now.ops) (fold_stores prepared.now.ops) }
+    ensures bases { cells store.new
+        ≡ closed_by prepared.now.ops 0 prepared.now.ops (sum_kept prepared.now.ops prepared.now.numbers)
+        (cells store.old) }
+    ensures stores { store.new.stores
+        ≡ store.old.stores + total (weight prepared.now.ops) (fold_stores prepared.now.ops) }
     ensures loads { store.new.loads ≡ store.old.loads }
     ensures made { store.new.made ≡ store.old.made }
 {
@@ -74,8 +78,10 @@ pub fn run(prepared: &mut Prepared, store: &mut Store, slots: &mut Slots)
     requires open { IsOpen prepared.old.ops store.old slots.old }
     requires room { store.old.loads < 2 ^ 61 }
     requires room_stores { store.old.stores < 2 ^ 61 }
-    ensures bases { cells store.new ≡ (eager (before_open prepared.old.ops store.old slots.old) prepared.old.ops).bases }
-    ensures slots { slots_of slots.new ≡ (eager (before_open prepared.old.ops store.old slots.old) prepared.old.ops).slots }
+    ensures bases { cells store.new
+        ≡ (eager (before_open prepared.old.ops store.old slots.old) prepared.old.ops).bases }
+    ensures slots { slots_of slots.new
+        ≡ (eager (before_open prepared.old.ops store.old slots.old) prepared.old.ops).slots }
     ensures loads { store.new.loads ≡ store.old.loads + total (weight prepared.old.ops) (reads prepared.old.ops) }
     ensures stores { store.new.stores ≡ store.old.stores + total (weight prepared.old.ops) (writes prepared.old.ops) }
     ensures made { store.new.made ≡ store.old.made }

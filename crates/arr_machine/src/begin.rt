@@ -29,7 +29,8 @@ fn clear(numbers: &mut [i128])
 fn start_fold(along: Along, numbers: &mut [i128])
     requires code { is_fold along.code ≡ true }
     requires there { along.kept + along.axis.outer * along.axis.inner ≤ length numbers.old }
-    ensures { StepsEach along.elem (λ sum x. start_of along.code along.elem) numbers.old (λ j. pos 0) along.kept (along.axis.outer * along.axis.inner) numbers.new }
+    ensures { StepsEach along.elem (λ sum x. start_of along.code along.elem) numbers.old (λ j. pos 0) along.kept
+        (along.axis.outer * along.axis.inner) numbers.new }
 {
     let start = fold_start(along.code, along.elem);
     for i in 0..along.axis.outer * along.axis.inner {

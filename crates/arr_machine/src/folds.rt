@@ -24,9 +24,12 @@ pub(crate) fn fold_lane(
 )
     requires strip { IsStripOf ops.now strip.position strip.count strip.room }
     requires there { index < length ops.now }
-    requires task { (op : Op) → op ≡ get_or ops.now index op → IsTask ops.now strip.room lanes.now index op (Task.Fold along) }
+    requires task { (op : Op) → op ≡ get_or ops.now index op
+        → IsTask ops.now strip.room lanes.now index op (Task.Fold along) }
     requires ready { IsReady ops.now strip.room lanes.now numbers.old }
-    ensures stands { (slots : ℕ → Option Slot) → Advances ops.now strip.position strip.count index (index + 1) lanes.now numbers.old slots lanes.now numbers.new slots }
+    ensures stands { (slots : ℕ → Option Slot)
+        → Advances ops.now strip.position strip.count index
+        (index + 1) lanes.now numbers.old slots lanes.now numbers.new slots }
     ensures ready { IsReady ops.now strip.room lanes.now numbers.new }
 {
     match along.elem {
@@ -48,10 +51,13 @@ fn fold_typed<T: Lane>(
 )
     requires strip { IsStripOf _ops.now strip.position strip.count strip.room }
     requires there { _index < length _ops.now }
-    requires task { (op : Op) → op ≡ get_or _ops.now _index op → IsTask _ops.now strip.room lanes.now _index op (Task.Fold along) }
+    requires task { (op : Op) → op ≡ get_or _ops.now _index op
+        → IsTask _ops.now strip.room lanes.now _index op (Task.Fold along) }
     requires ready { IsReady _ops.now strip.room lanes.now numbers.old }
     requires elem { along.elem ≡ T.elem }
-    ensures stands { (slots : ℕ → Option Slot) → Advances _ops.now strip.position strip.count _index (_index + 1) lanes.now numbers.old slots lanes.now numbers.new slots }
+    ensures stands { (slots : ℕ → Option Slot)
+        → Advances _ops.now strip.position strip.count _index
+        (_index + 1) lanes.now numbers.old slots lanes.now numbers.new slots }
     ensures ready { IsReady _ops.now strip.room lanes.now numbers.new }
 {
     let source: &[T] = numbers_of(lanes, along.source, strip.room);
@@ -79,10 +85,13 @@ pub(crate) fn scan_lane(
 )
     requires strip { IsStripOf ops.now strip.position strip.count strip.room }
     requires there { index < length ops.now }
-    requires task { (op : Op) → op ≡ get_or ops.now index op → IsTask ops.now strip.room lanes.old index op (Task.Scan along dest) }
+    requires task { (op : Op) → op ≡ get_or ops.now index op
+        → IsTask ops.now strip.room lanes.old index op (Task.Scan along dest) }
     requires ready { IsReady ops.now strip.room lanes.old numbers.old }
     requires spares { HasRoom strip.room spares.old }
-    ensures stands { (slots : ℕ → Option Slot) → Advances ops.now strip.position strip.count index (index + 1) lanes.old numbers.old slots lanes.new numbers.new slots }
+    ensures stands { (slots : ℕ → Option Slot)
+        → Advances ops.now strip.position strip.count index
+        (index + 1) lanes.old numbers.old slots lanes.new numbers.new slots }
     ensures ready { IsReady ops.now strip.room lanes.new numbers.new }
     ensures steady { Steady ops.now strip.room lanes.old lanes.new }
     ensures spares { HasRoom strip.room spares.new }
@@ -144,11 +153,14 @@ fn scan_typed<T: Lane>(
 )
     requires strip { IsStripOf _ops.now strip.position strip.count strip.room }
     requires there { _index < length _ops.now }
-    requires task { (op : Op) → op ≡ get_or _ops.now _index op → IsTask _ops.now strip.room lanes.old _index op (Task.Scan along dest) }
+    requires task { (op : Op) → op ≡ get_or _ops.now _index op
+        → IsTask _ops.now strip.room lanes.old _index op (Task.Scan along dest) }
     requires ready { IsReady _ops.now strip.room lanes.old numbers.old }
     requires spare { strip.room ≤ length spare.old.items }
     requires elem { along.elem ≡ T.elem }
-    ensures stands { (slots : ℕ → Option Slot) → Advances _ops.now strip.position strip.count _index (_index + 1) lanes.old numbers.old slots lanes.new numbers.new slots }
+    ensures stands { (slots : ℕ → Option Slot)
+        → Advances _ops.now strip.position strip.count _index
+        (_index + 1) lanes.old numbers.old slots lanes.new numbers.new slots }
     ensures ready { IsReady _ops.now strip.room lanes.new numbers.new }
     ensures steady { Steady _ops.now strip.room lanes.old lanes.new }
     ensures spare { strip.room ≤ length spare.new.items }

@@ -41,10 +41,12 @@ pub(crate) fn load_ports(
     requires typed { TypedLanes _ops.now strip.room lanes.old }
     requires room { store.old.loads < 2 ^ 61 + 2 ^ 40 }
     ensures loaded { (v : Strided) → loaded (reads _ops.now) v ≡ true → (i : ℕ) → i < strip.count
-        → number lanes.new (number_in (register_views _ops.now) v) i ≡ number_at (cells store.old v.base) (place_at v (strip.position + i)) }
+        → number lanes.new (number_in (register_views _ops.now) v) i
+        ≡ number_at (cells store.old v.base) (place_at v (strip.position + i)) }
     ensures steady { Steady _ops.now strip.room lanes.old lanes.new }
     ensures bases { store.new.bases ≡ store.old.bases }
-    ensures loads { store.new.loads ≡ store.old.loads + strip.count * total (λ v. width_at (cells store.old v.base)) (reads _ops.now) }
+    ensures loads { store.new.loads
+        ≡ store.old.loads + strip.count * total (λ v. width_at (cells store.old v.base)) (reads _ops.now) }
     ensures stores { store.new.stores ≡ store.old.stores }
     ensures made { store.new.made ≡ store.old.made }
 {
@@ -72,8 +74,11 @@ pub(crate) fn store_ports(
     requires there { AllByRecursion (IsThere _ops.now (cells store.old)) (stores _ops.now) }
     requires typed { TypedLanes _ops.now strip.room lanes.now }
     requires room { store.old.stores < 2 ^ 61 + 2 ^ 40 }
-    ensures bases { cells store.new ≡ stored strip.position strip.count (lane_columns _ops.now lanes.now strip.position) (stores _ops.now) (cells store.old) }
-    ensures stores { store.new.stores ≡ store.old.stores + strip.count * total (λ v. width_at (cells store.old v.base)) (stores _ops.now) }
+    ensures bases { cells store.new
+        ≡ stored strip.position strip.count (lane_columns _ops.now lanes.now strip.position) (stores _ops.now)
+        (cells store.old) }
+    ensures stores { store.new.stores
+        ≡ store.old.stores + strip.count * total (λ v. width_at (cells store.old v.base)) (stores _ops.now) }
     ensures loads { store.new.loads ≡ store.old.loads }
     ensures made { store.new.made ≡ store.old.made }
 {

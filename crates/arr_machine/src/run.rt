@@ -26,10 +26,13 @@ fn compute_lane(
 )
     requires strip { IsStripOf _ops.now strip.position strip.count strip.room }
     requires there { _index < length _ops.now }
-    requires task { (op : Op) → op ≡ get_or _ops.now _index op → IsTask _ops.now strip.room lanes.old _index op (Task.Line line) }
+    requires task { (op : Op) → op ≡ get_or _ops.now _index op
+        → IsTask _ops.now strip.room lanes.old _index op (Task.Line line) }
     requires ready { IsReady _ops.now strip.room lanes.old _numbers.now }
     requires spares { HasRoom strip.room spares.old }
-    ensures stands { (slots : ℕ → Option Slot) → Advances _ops.now strip.position strip.count _index (_index + 1) lanes.old _numbers.now slots lanes.new _numbers.now slots }
+    ensures stands { (slots : ℕ → Option Slot)
+        → Advances _ops.now strip.position strip.count _index
+        (_index + 1) lanes.old _numbers.now slots lanes.new _numbers.now slots }
     ensures ready { IsReady _ops.now strip.room lanes.new _numbers.now }
     ensures steady { Steady _ops.now strip.room lanes.old lanes.new }
     ensures spares { HasRoom strip.room spares.new }
@@ -50,10 +53,12 @@ fn show_lane(
 )
     requires strip { IsStripOf _ops.now strip.position strip.count strip.room }
     requires there { _index < length _ops.now }
-    requires task { (op : Op) → op ≡ get_or _ops.now _index op → IsTask _ops.now strip.room lanes.now _index op (Task.Show slot lane) }
+    requires task { (op : Op) → op ≡ get_or _ops.now _index op
+        → IsTask _ops.now strip.room lanes.now _index op (Task.Show slot lane) }
     requires ready { IsReady _ops.now strip.room lanes.now _numbers.now }
     requires slots { SlotsMatch _ops.now (slots_of slots.old) }
-    ensures stands { Advances _ops.now strip.position strip.count _index (_index + 1) lanes.now _numbers.now (slots_of slots.old) lanes.now _numbers.now (slots_of slots.new) }
+    ensures stands { Advances _ops.now strip.position strip.count _index (_index + 1) lanes.now _numbers.now
+        (slots_of slots.old) lanes.now _numbers.now (slots_of slots.new) }
     ensures slots { SlotsMatch _ops.now (slots_of slots.new) }
 {
     let run = Run {
@@ -81,7 +86,8 @@ fn run_task(
     requires ready { IsReady ops.now strip.room lanes.old numbers.old }
     requires spares { HasRoom strip.room spares.old }
     requires slots { SlotsMatch ops.now (slots_of slots.old) }
-    ensures stands { Advances ops.now strip.position strip.count index (index + 1) lanes.old numbers.old (slots_of slots.old) lanes.new numbers.new (slots_of slots.new) }
+    ensures stands { Advances ops.now strip.position strip.count index (index + 1) lanes.old numbers.old
+        (slots_of slots.old) lanes.new numbers.new (slots_of slots.new) }
     ensures ready { IsReady ops.now strip.room lanes.new numbers.new }
     ensures steady { Steady ops.now strip.room lanes.old lanes.new }
     ensures spares { HasRoom strip.room spares.new }
@@ -114,7 +120,8 @@ pub fn run_tasks(
     requires ready { IsReady ops.now strip.room lanes.old numbers.old }
     requires spares { HasRoom strip.room spares.old }
     requires slots { SlotsMatch ops.now (slots_of slots.old) }
-    ensures stands { Advances ops.now strip.position strip.count 0 (length ops.now) lanes.old numbers.old (slots_of slots.old) lanes.new numbers.new (slots_of slots.new) }
+    ensures stands { Advances ops.now strip.position strip.count 0 (length ops.now) lanes.old numbers.old
+        (slots_of slots.old) lanes.new numbers.new (slots_of slots.new) }
     ensures ready { IsReady ops.now strip.room lanes.new numbers.new }
     ensures steady { Steady ops.now strip.room lanes.old lanes.new }
     ensures spares { HasRoom strip.room spares.new }

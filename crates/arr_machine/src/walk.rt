@@ -61,7 +61,8 @@ impl Machine {
         requires room { strip.room ≡ self.old.room }
         requires loads { store.old.loads < 2 ^ 61 + 2 ^ 40 }
         requires saves { store.old.stores < 2 ^ 61 + 2 ^ 40 }
-        ensures walks { (m : Memory) (start : ℕ → Option Slot) → fits m ops.now ≡ true → Walks ops.now m start strip.position (cells store.old) numbers.old (slots_of slots.old)
+        ensures walks { (m : Memory) (start : ℕ → Option Slot) → fits m ops.now ≡ true
+            → Walks ops.now m start strip.position (cells store.old) numbers.old (slots_of slots.old)
             → Walks ops.now m start (strip.position + strip.count) (cells store.new) numbers.new (slots_of slots.new) }
         ensures machine { IsMachineOf ops.now self.new }
         ensures same { (b : ℕ) → outline (cells store.new b) ≡ outline (cells store.old b) }
@@ -70,8 +71,10 @@ impl Machine {
         ensures slots { SlotsMatch ops.now (slots_of slots.new) }
         ensures made { store.new.made ≡ store.old.made }
         ensures room { self.new.room ≡ self.old.room }
-        ensures loads { store.new.loads ≡ store.old.loads + strip.count * total (λ v. width_at (cells store.old v.base)) (reads ops.now) }
-        ensures saves { store.new.stores ≡ store.old.stores + strip.count * total (λ v. width_at (cells store.old v.base)) (stores ops.now) }
+        ensures loads { store.new.loads
+            ≡ store.old.loads + strip.count * total (λ v. width_at (cells store.old v.base)) (reads ops.now) }
+        ensures saves { store.new.stores
+            ≡ store.old.stores + strip.count * total (λ v. width_at (cells store.old v.base)) (stores ops.now) }
     {
         load_ports(
             ops,
@@ -112,7 +115,8 @@ impl Machine {
         requires slots { SlotsMatch ops.now (slots_of slots.old) }
         requires loads { store.old.loads < 2 ^ 61 }
         requires saves { store.old.stores < 2 ^ 61 }
-        ensures walks { (m : Memory) (start : ℕ → Option Slot) → fits m ops.now ≡ true → Walks ops.now m start 0 (cells store.old) numbers.old (slots_of slots.old)
+        ensures walks { (m : Memory) (start : ℕ → Option Slot) → fits m ops.now ≡ true
+            → Walks ops.now m start 0 (cells store.old) numbers.old (slots_of slots.old)
             → Walks ops.now m start (block_positions ops.now) (cells store.new) numbers.new (slots_of slots.new) }
         ensures machine { IsMachineOf ops.now self.new }
         ensures same { (b : ℕ) → outline (cells store.new b) ≡ outline (cells store.old b) }
@@ -121,8 +125,12 @@ impl Machine {
         ensures slots { SlotsMatch ops.now (slots_of slots.new) }
         ensures made { store.new.made ≡ store.old.made }
         ensures room { self.new.room ≡ self.old.room }
-        ensures loads { store.new.loads ≡ store.old.loads + block_positions ops.now * total (λ v. width_at (cells store.old v.base)) (reads ops.now) }
-        ensures saves { store.new.stores ≡ store.old.stores + block_positions ops.now * total (λ v. width_at (cells store.old v.base)) (stores ops.now) }
+        ensures loads { store.new.loads
+            ≡ store.old.loads + block_positions ops.now * total (λ v. width_at (cells store.old v.base))
+            (reads ops.now) }
+        ensures saves { store.new.stores
+            ≡ store.old.stores + block_positions ops.now * total (λ v. width_at (cells store.old v.base))
+            (stores ops.now) }
     {
         let positions = self.positions as usize;
         let mut at = 0;

@@ -20,7 +20,8 @@ pub fn copied_ops(alloc: Global, ops: &[Op]) -> Result<Vec<Op>, NoMemory>
 }
 
 fn push_view(list: &mut Vec<View>, view: Option<&View>) -> Result<(), NoMemory>
-    ensures { IfOk result (λ done. list.new.items ≡ list.old.items ++ option_to_list (option_map (λ v. v.now) view.entry)) }
+    ensures { IfOk result (λ done. list.new.items
+        ≡ list.old.items ++ option_to_list (option_map (λ v. v.now) view.entry)) }
 {
     if let Some(view) = view {
         list.push(view.copied())?;

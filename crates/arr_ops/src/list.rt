@@ -69,7 +69,9 @@ fn inside_made(maker: &Op, op: &Op) -> bool
 
 /// Whether a view, if it is there, is one of another base, or has its elements below the positions of this whole one.
 fn lies_inside(view: Option<&View>, base: &View) -> bool
-    ensures { result ≡ list_all (λ v. not (base.now.base == v.base) || list_all (λ e. nat_lt e (positions base.now.lengths)) (elements v)) (option_to_list (option_map (λ v. v.now) view.entry)) }
+    ensures { result ≡ list_all (λ v. not (base.now.base == v.base) || list_all
+        (λ e. nat_lt e (positions base.now.lengths)) (elements v))
+        (option_to_list (option_map (λ v. v.now) view.entry)) }
 {
     match view {
         Some(view) => base.base() != view.base() || lies_below(view, base.positions()),
@@ -109,7 +111,8 @@ fn same_types(left: &Op, right: &Op) -> bool
 }
 
 fn view_agrees(view: Option<&View>, ty: Elem, op: &Op) -> bool
-    ensures { result ≡ list_all (λ v. list_all (λ q. not (v.base == q.0) || same_elem ty q.1) (typed op.now)) (option_to_list (option_map (λ v. v.now) view.entry)) }
+    ensures { result ≡ list_all (λ v. list_all (λ q. not (v.base == q.0) || same_elem ty q.1) (typed op.now))
+        (option_to_list (option_map (λ v. v.now) view.entry)) }
 {
     match view {
         Some(view) => agrees(view.base(), ty, op),
@@ -118,7 +121,8 @@ fn view_agrees(view: Option<&View>, ty: Elem, op: &Op) -> bool
 }
 
 fn freed_agrees(frees: Option<u32>, ty: Elem, op: &Op) -> bool
-    ensures { result ≡ list_all (λ b. list_all (λ q. not (b == q.0) || same_elem ty q.1) (typed op.now)) (option_to_list frees) }
+    ensures { result ≡ list_all (λ b. list_all (λ q. not (b == q.0) || same_elem ty q.1) (typed op.now))
+        (option_to_list frees) }
 {
     match frees {
         Some(base) => agrees(base, ty, op),
@@ -138,7 +142,8 @@ fn agrees(base: u32, ty: Elem, op: &Op) -> bool
 
 /// Whether a view, if it is there, is one of another base, or else the types are the same.
 fn avoids_or(view: Option<&View>, base: u32, same: bool) -> bool
-    ensures { result ≡ list_all (λ v. not (base == v.base) || same) (option_to_list (option_map (λ v. v.now) view.entry)) }
+    ensures { result ≡ list_all (λ v. not (base == v.base) || same)
+        (option_to_list (option_map (λ v. v.now) view.entry)) }
 {
     match view {
         Some(view) => base != view.base() || same,
@@ -176,7 +181,8 @@ fn may_precede(op: &Op, later: &Op) -> bool
 }
 
 fn makes_unnamed(op: &Op, later: &Op) -> bool
-    ensures { result ≡ (not later.now.makes || list_all (λ o. not (has (named op.now) o.base)) (option_to_list later.now.out)) }
+    ensures { result ≡ (not later.now.makes || list_all (λ o. not (has (named op.now) o.base))
+        (option_to_list later.now.out)) }
 {
     !later.makes
         || match &later.out {

@@ -72,7 +72,8 @@ fn mark(
     requires marked { AreMarks marks.old.items views.now }
     ensures marked { OnOk result (AreMarks marks.new.items views.now) }
     ensures there { OnOk result (IsSome (get_or marks.new.items at None)) }
-    ensures others { OnOk result ((i : ℕ) → IsSome (get_or marks.old.items i None) → IsSome (get_or marks.new.items i None)) }
+    ensures others { OnOk result ((i : ℕ) → IsSome (get_or marks.old.items i None)
+        → IsSome (get_or marks.new.items i None)) }
 {
     if marks[at].is_none() {
         marks[at] = Some(marked(alloc, &views[at])?);

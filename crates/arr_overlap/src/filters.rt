@@ -47,7 +47,8 @@ fn common_divisor(a: u32, b: u32) -> u32
 fn spacing(number: u32, strides: &[i32]) -> u32
     ensures number { IsTrue (divides result number) }
     ensures strides { IsTrue (is_spaced result strides.now) }
-    ensures greatest { (d : ℕ) → IsTrue (divides d number) → IsTrue (is_spaced d strides.now) → IsTrue (divides d result) }
+    ensures greatest { (d : ℕ) → IsTrue (divides d number) → IsTrue (is_spaced d strides.now)
+        → IsTrue (divides d result) }
 {
     let mut divisor = number;
     for stride in strides {
@@ -87,14 +88,16 @@ pub(crate) fn outline_of(view: &View) -> Outline
 
 /// Whether the elements of one view lie all below those of the other.
 fn lie_apart(a: &Outline, b: &Outline) -> bool
-    ensures { (v w : Strided) → IsOutline a.now v → IsOutline b.now w → result ≡ true → share (elements v) (elements w) ≡ false }
+    ensures { (v w : Strided) → IsOutline a.now v → IsOutline b.now w → result ≡ true → share (elements v) (elements w)
+        ≡ false }
 {
     a.greatest < b.least || b.greatest < a.least
 }
 
 /// Whether all strides of both views are multiples of a number above 1 that the difference of their starts is no multiple of.
 fn step_apart(a: &Outline, b: &Outline) -> bool
-    ensures { (v w : Strided) → IsOutline a.now v → IsOutline b.now w → result ≡ true → share (elements v) (elements w) ≡ false }
+    ensures { (v w : Strided) → IsOutline a.now v → IsOutline b.now w → result ≡ true → share (elements v) (elements w)
+        ≡ false }
 {
     let step = common_divisor(a.step, b.step);
     step > 1 && a.start % step != b.start % step
@@ -103,7 +106,8 @@ fn step_apart(a: &Outline, b: &Outline) -> bool
 /// Whether the elements lie in different columns of rows of one length.
 fn columns_apart(a: &Outline, b: &Outline) -> bool
     requires { a.now.column < a.now.row }
-    ensures { (v w : Strided) → IsOutline a.now v → IsOutline b.now w → result ≡ true → share (elements v) (elements w) ≡ false }
+    ensures { (v w : Strided) → IsOutline a.now v → IsOutline b.now w → result ≡ true → share (elements v) (elements w)
+        ≡ false }
 {
     if a.row != b.row {
         return false;
@@ -117,7 +121,8 @@ fn columns_apart(a: &Outline, b: &Outline) -> bool
 /// different columns.
 pub(crate) fn told_apart(a: &Outline, b: &Outline) -> bool
     requires { a.now.column < a.now.row }
-    ensures { (v w : Strided) → IsOutline a.now v → IsOutline b.now w → result ≡ true → share (elements v) (elements w) ≡ false }
+    ensures { (v w : Strided) → IsOutline a.now v → IsOutline b.now w → result ≡ true → share (elements v) (elements w)
+        ≡ false }
 {
     lie_apart(a, b) || step_apart(a, b) || columns_apart(a, b)
 }

@@ -51,7 +51,8 @@ fn lead_by_two(
     requires legs { AreLegs 8 (leg ∷ others.now) }
     requires most { (most < leg.places) × (most ≤ target / leg.step) }
     ensures reached { result ≡ Some true → LeadTo (leg ∷ others.now) target }
-    ensures missed { result ≡ Some false → (k : ℕ) → least ≤ k → k ≤ most → LeadTo others.now (target - k * leg.step) → ⊥ }
+    ensures missed { result ≡ Some false → (k : ℕ) → least ≤ k → k ≤ most → LeadTo others.now (target - k * leg.step)
+        → ⊥ }
 {
     if others.len() != 1 {
         return None;

@@ -14,8 +14,10 @@ const MOST_TRIES: u64 = 256;
 fn add_dimensions(legs: &mut ArrayVec<Leg, 8>, view: &View)
     requires { AreLegs 4 legs.old.items }
     ensures legs { (k : ℕ) → k ≤ 4 → AreLegs k legs.old.items → AreLegs (k + 4) legs.new.items }
-    ensures reached { (t : ℕ) → LeadTo legs.new.items t → LeadTo (with_dimensions view.now.lengths view.now.strides legs.old.items) t }
-    ensures missed { (t : ℕ) → LeadTo (with_dimensions view.now.lengths view.now.strides legs.old.items) t → LeadTo legs.new.items t }
+    ensures reached { (t : ℕ) → LeadTo legs.new.items t
+        → LeadTo (with_dimensions view.now.lengths view.now.strides legs.old.items) t }
+    ensures missed { (t : ℕ) → LeadTo (with_dimensions view.now.lengths view.now.strides legs.old.items) t
+        → LeadTo legs.new.items t }
     ensures lawful { IsTrue (is_view view.now) }
 {
     let strides = view.strides();

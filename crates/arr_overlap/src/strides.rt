@@ -32,7 +32,8 @@ fn leads_back(legs: &mut ArrayVec<Leg, 8>, length: u64, step: u64) -> bool
     ensures free { result ≡ false → IsOpen length step legs.old.items }
     ensures legs { result ≡ false → (k : ℕ) → AreLegs k legs.old.items → AreLegs (k + 2) legs.new.items }
     ensures reach { result ≡ false → reach legs.new.items ≡ reach (both_ways_of length step ∷ legs.old.items) }
-    ensures missed { result ≡ false → (t : ℕ) → LeadTo (both_ways_of length step ∷ legs.old.items) t → LeadTo legs.new.items t }
+    ensures missed { result ≡ false → (t : ℕ) → LeadTo (both_ways_of length step ∷ legs.old.items) t
+        → LeadTo legs.new.items t }
 {
     if step == 0 {
         return true;

@@ -24,7 +24,8 @@ fn number_named<T: Native, I: Index>(
     requires count { count ≡ positions view.now.lengths }
     requires some { 0 < count }
     requires inside { AllBelow (length numbers.now) (elements view.now) }
-    ensures { T.number result ≡ number_named (numbers_of (map T.number numbers.now) (elements view.now)) (I.number index) }
+    ensures { T.number result ≡ number_named (numbers_of (map T.number numbers.now) (elements view.now))
+        (I.number index) }
 {
     let position = index.position(count);
     numbers[element_at(view, gapless, position) as usize].itself()

@@ -49,7 +49,8 @@ impl Owners {
     /// The next base is made. No name stands for it yet.
     pub(crate) fn make(&mut self, base: u32, elem: Elem) -> Result<(), NoMemory>
         requires { base ≡ length self.old.elems }
-        ensures owned { OnOk result ((names : List (ℕ × ℕ)) → (live : List (ℕ × Elem)) → Owned self.old names live → Owned self.new names (live ++ (base, elem) ∷ [])) }
+        ensures owned { OnOk result ((names : List (ℕ × ℕ)) → (live : List (ℕ × Elem)) → Owned self.old names live
+            → Owned self.new names (live ++ (base, elem) ∷ [])) }
         ensures made { OnOk result (length self.new.elems ≡ length self.old.elems + 1) }
     {
         self.elems.push(elem)?;
@@ -61,7 +62,8 @@ impl Owners {
     /// The base that an operation makes, if it makes one.
     pub(crate) fn make_for(&mut self, op: &Op) -> Result<(), NoMemory>
         requires { op.now.makes ≡ true → AllByRecursion (λ o. o.base ≡ length self.old.elems) (outputs op.now) }
-        ensures owned { OnOk result ((names : List (ℕ × ℕ)) → (live : List (ℕ × Elem)) → Owned self.old names live → Owned self.new names (live ++ made op.now)) }
+        ensures owned { OnOk result ((names : List (ℕ × ℕ)) → (live : List (ℕ × Elem)) → Owned self.old names live
+            → Owned self.new names (live ++ made op.now)) }
         ensures made { OnOk result (length self.new.elems ≡ length self.old.elems + length (made op.now)) }
     {
         if !op.makes {
@@ -76,7 +78,8 @@ impl Owners {
     /// The name stands for nothing from here on.
     pub(crate) fn release(&mut self, name: u32) -> Result<(), NoMemory>
         requires { Known self.old }
-        ensures owned { OnOk result ((names : List (ℕ × ℕ)) → (live : List (ℕ × Elem)) → Owned self.old names live → Owned self.new (other_names name names) live) }
+        ensures owned { OnOk result ((names : List (ℕ × ℕ)) → (live : List (ℕ × Elem)) → Owned self.old names live
+            → Owned self.new (other_names name names) live) }
         ensures made { OnOk result (self.new.elems ≡ self.old.elems) }
     {
         let Some(base) = self.names.remove(&name) else {
@@ -94,7 +97,8 @@ impl Owners {
     /// The name stands for a live base from here on.
     pub(crate) fn bind(&mut self, name: u32, base: u32) -> Result<(), NoMemory>
         requires { (known : Known self.old) × (lives known.live base ≡ true) × (length known.names < 2 ^ 63) }
-        ensures owned { OnOk result ((names : List (ℕ × ℕ)) → (live : List (ℕ × Elem)) → Owned self.old names live → lives live base ≡ true → Owned self.new ((name, base) ∷ other_names name names) live) }
+        ensures owned { OnOk result ((names : List (ℕ × ℕ)) → (live : List (ℕ × Elem)) → Owned self.old names live
+            → lives live base ≡ true → Owned self.new ((name, base) ∷ other_names name names) live) }
         ensures made { OnOk result (self.new.elems ≡ self.old.elems) }
     {
         self.release(name)?;
@@ -120,7 +124,8 @@ impl Owners {
     /// No name stands for anything from here on.
     pub(crate) fn release_all(&mut self, alloc: Global) -> Result<(), NoMemory>
         requires { Known self.old }
-        ensures { OnOk result ((names : List (ℕ × ℕ)) → (live : List (ℕ × Elem)) → Owned self.old names live → Owned self.new [] live) }
+        ensures { OnOk result ((names : List (ℕ × ℕ)) → (live : List (ℕ × Elem)) → Owned self.old names live
+            → Owned self.new [] live) }
     {
         let names: Vec<u32> = self.names.keys().copied().collect(alloc)?;
         for name in &names {

@@ -23,7 +23,8 @@ fn follow(
     step: &Step,
 ) -> Result<(), NoMemory>
     requires { Ready writer.old owners.old step.now }
-    ensures { OnOk result ((r : Ready writer.old owners.old step.now) → Follows r.next (after r.state step.now) writer.new owners.new) }
+    ensures { OnOk result ((r : Ready writer.old owners.old step.now)
+        → Follows r.next (after r.state step.now) writer.new owners.new) }
 {
     match step {
         Step::Act(op) => {

@@ -22,7 +22,10 @@ use std::alloc::{AllocError as NoMemory, Global};
 fn replace(meetings: &mut Meetings, list: &mut Vec<Op>, place: usize) -> Result<bool, NoMemory>
     requires place { place < length list.now.items }
     requires formed { is_formed list.now.items ≡ true }
-    ensures becomes { IfOk result (λ done. (op : Op) → op ≡ get_or list.old.items place op → replaced (take place list.old.items) (drop (place + 1) list.old.items) (replacement (take place list.old.items) op (drop (place + 1) list.old.items)) ≡ cond done (Some list.new.items) None) }
+    ensures becomes { IfOk result (λ done. (op : Op) → op ≡ get_or list.old.items place op
+        → replaced (take place list.old.items) (drop (place + 1) list.old.items)
+        (replacement (take place list.old.items) op (drop (place + 1) list.old.items))
+        ≡ cond done (Some list.new.items) None) }
     ensures long { IfOk result (λ done. length list.new.items ≡ length list.old.items) }
     ensures settled { IfOk result (λ done. SettledTo place list.old.items → SettledTo place list.new.items) }
     ensures kept { IfOk result (λ done. done ≡ false → list.new.items ≡ list.old.items) }
@@ -41,7 +44,9 @@ fn replace(meetings: &mut Meetings, list: &mut Vec<Op>, place: usize) -> Result<
 /// Removes the operation at the place, where it copies a view to itself.
 fn remove_copy(list: &mut Vec<Op>, place: usize) -> bool
     requires { place < length list.now.items }
-    ensures left { (op : Op) → op ≡ get_or list.old.items place op → then_some (copies_itself op) (take place list.old.items ++ drop (place + 1) list.old.items) ≡ cond result (Some list.new.items) None }
+    ensures left { (op : Op) → op ≡ get_or list.old.items place op
+        → then_some (copies_itself op) (take place list.old.items ++ drop (place + 1) list.old.items)
+        ≡ cond result (Some list.new.items) None }
     ensures kept { result ≡ false → list.new.items ≡ list.old.items }
 {
     if copies_itself(&list[place]) {
@@ -56,7 +61,9 @@ fn remove_copy(list: &mut Vec<Op>, place: usize) -> bool
 fn remove_unused(list: &mut Vec<Op>, place: usize) -> bool
     requires place { place < length list.now.items }
     requires formed { is_formed list.now.items ≡ true }
-    ensures left { (op : Op) → op ≡ get_or list.old.items place op → unused (take place list.old.items) op (drop (place + 1) list.old.items) op.out ≡ cond result (Some list.new.items) None }
+    ensures left { (op : Op) → op ≡ get_or list.old.items place op
+        → unused (take place list.old.items) op (drop (place + 1) list.old.items) op.out
+        ≡ cond result (Some list.new.items) None }
     ensures long { place ≤ length list.new.items }
     ensures settled { SettledTo place list.old.items → SettledTo place list.new.items }
     ensures kept { result ≡ false → list.new.items ≡ list.old.items }
@@ -78,7 +85,8 @@ fn rewrite_settled(list: &mut Vec<Op>, settled: usize) -> Option<usize>
     requires formed { is_formed list.now.items ≡ true }
     requires few { settled ≤ length list.now.items }
     requires settled { SettledTo settled list.now.items }
-    ensures next { Searched (next_rewrite list.old.items) (rewrite_from (take settled list.old.items) (drop settled list.old.items)) list.new.items result }
+    ensures next { Searched (next_rewrite list.old.items)
+        (rewrite_from (take settled list.old.items) (drop settled list.old.items)) list.new.items result }
     ensures kept { result ≡ None → list.new.items ≡ list.old.items }
 {
     for place in 0..settled {
@@ -99,7 +107,8 @@ fn rewrite_rest(
     requires formed { is_formed list.now.items ≡ true }
     requires few { settled ≤ length list.now.items }
     requires settled { SettledTo settled list.now.items }
-    ensures next { IfOk result (λ place. Searched (rewrite_from (take settled list.old.items) (drop settled list.old.items)) None list.new.items place) }
+    ensures next { IfOk result (λ place. Searched
+        (rewrite_from (take settled list.old.items) (drop settled list.old.items)) None list.new.items place) }
     ensures kept { IfOk result (λ place. place ≡ None → list.new.items ≡ list.old.items) }
 {
     for place in settled..list.len() {

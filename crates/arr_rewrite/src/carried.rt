@@ -103,7 +103,8 @@ fn source_view(
 
 /// Whether it is IDENTITY into the view, in one type.
 fn copies_into(op: &Op, view: &View) -> bool
-    ensures { result ≡ (is_identity op.now.code && (same_elem op.now.from op.now.to && list_any (identical view.now) (outputs op.now))) }
+    ensures { result ≡ (is_identity op.now.code
+        && (same_elem op.now.from op.now.to && list_any (identical view.now) (outputs op.now))) }
 {
     is_identity(op.code) && op.from == op.to && is_output(view, op)
 }

@@ -49,7 +49,8 @@ fn only_freed(ops: &[Op], base: u32) -> bool
 
 /// Whether a creator's base is named by nothing but what frees it.
 pub(crate) fn is_unused(front: &[Op], op: &Op, back: &[Op], base: u32) -> bool
-    ensures { result ≡ (op.now.makes && (list_all (λ f. not (has (named f) base)) front.now && only_freed back.now base)) }
+    ensures { result ≡ (op.now.makes
+        && (list_all (λ f. not (has (named f) base)) front.now && only_freed back.now base)) }
 {
     op.makes && only_freed(back, base) && unnamed(front, base)
 }
@@ -63,7 +64,8 @@ pub(crate) fn remove_frees(list: &mut Vec<Op>, base: u32)
 
 /// The base of a creator that nothing uses.
 pub(crate) fn unused_base(front: &[Op], op: &Op, back: &[Op]) -> Option<u32>
-    ensures left { unused front.now op.now back.now op.now.out ≡ option_map (λ b. front.now ++ unfreed back.now b) result }
+    ensures left { unused front.now op.now back.now op.now.out
+        ≡ option_map (λ b. front.now ++ unfreed back.now b) result }
     ensures unnamed { IfSome result (λ b. list_all (λ f. not (has (named f) b)) front.now ≡ true) }
 {
     match &op.out {

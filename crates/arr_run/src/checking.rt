@@ -45,7 +45,8 @@ fn write_flush<K: Sink>(
     sink: &mut K,
 ) -> Result<(), Stop>
     ensures wrote { OnOk result (Appends (K.written sink.old) (K.written sink.new) (flush_line number (cost, bound))) }
-    ensures cut { result ≡ Err Stop.WriteFault → AppendsPart (K.written sink.old) (K.written sink.new) (flush_line number (cost, bound)) }
+    ensures cut { result ≡ Err Stop.WriteFault
+        → AppendsPart (K.written sink.old) (K.written sink.new) (flush_line number (cost, bound)) }
     ensures silent { result ≡ Err Stop.NoMemory → Appends (K.written sink.old) (K.written sink.new) [] }
     ensures other { IfErr result (λ stop. (stop ≡ Stop.WriteFault) ⊎ (stop ≡ Stop.NoMemory)) }
     ensures later { K.faults sink.old ≤ K.faults sink.new }
@@ -73,7 +74,8 @@ fn check_list<C: Source, K: Sink>(
     requires few { length ops.now ≤ 256 }
     requires going { is_over reader.old ≡ false }
     requires met { HasMetEnd C.Source reader.old proof.old }
-    ensures judged { Judged (normal_form ops.now) number (unread C.Source reader.old proof.old) (unread C.Source reader.new proof.new)
+    ensures judged { Judged (normal_form ops.now) number (unread C.Source reader.old proof.old)
+        (unread C.Source reader.new proof.new)
         (K.written sink.old) (K.written sink.new) result }
     ensures going { OnOk result (is_over reader.new ≡ false) }
     ensures met { HasMetEnd C.Source reader.new proof.new }

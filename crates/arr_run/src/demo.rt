@@ -114,13 +114,15 @@ fn sum_flush<K: Sink>(
     requires few { length ops.now ≤ 256 }
     requires counts { CountsBelow (2 ^ 60) store.old }
     requires few_arrays { totals.old.count ≤ 2 ^ 30 }
-    ensures wrote { OnOk result (PartSummed number (Flush ops.now) (K.written sink.old) (K.written sink.new) store.old store.new) }
+    ensures wrote { OnOk result (PartSummed number (Flush ops.now) (K.written sink.old)
+        (K.written sink.new) store.old store.new) }
     ensures memory { OnOk result (memory_of store.new ≡ without_slots (eager (memory_of store.old) ops.now)) }
     ensures counts { OnOk result (RisesBy (2 ^ 32) store.old store.new) }
     ensures adds { OnOk result (Adds totals.old totals.new (printed (memory_of store.old) ops.now)) }
     ensures few_arrays { OnOk result (totals.new.count ≤ totals.old.count + 256) }
     ensures cause { Caused (K.faults sink.old) (K.faults sink.new) result }
-    ensures cut { IsErrOf result RunFault.WriteFault → PartCut number (Flush ops.now) (K.written sink.old) (K.written sink.new) }
+    ensures cut { IsErrOf result RunFault.WriteFault
+        → PartCut number (Flush ops.now) (K.written sink.old) (K.written sink.new) }
     ensures broke { IsErrOf result RunFault.NoMemory → Appends (K.written sink.old) (K.written sink.new) [] }
 {
     let Ok(prepared) = prepare(alloc, CHOICE, number, ops) else {
@@ -164,13 +166,15 @@ fn sum_part<K: Sink>(
     requires fitting { part_fits (memory_of store.old) part.now ≡ true }
     requires counts { CountsBelow (2 ^ 60) store.old }
     requires few_arrays { totals.old.count ≤ 2 ^ 30 }
-    ensures wrote { OnOk result (PartSummed number part.now (K.written sink.old) (K.written sink.new) store.old store.new) }
+    ensures wrote { OnOk result (PartSummed number part.now (K.written sink.old)
+        (K.written sink.new) store.old store.new) }
     ensures memory { OnOk result (memory_of store.new ≡ after_part (memory_of store.old) part.now) }
     ensures counts { OnOk result (RisesBy (2 ^ 32) store.old store.new) }
     ensures adds { OnOk result (Adds totals.old totals.new (printed_part (memory_of store.old) part.now)) }
     ensures few_arrays { OnOk result (totals.new.count ≤ totals.old.count + 256) }
     ensures cause { Caused (K.faults sink.old) (K.faults sink.new) result }
-    ensures cut { IsErrOf result RunFault.WriteFault → PartCut number part.now (K.written sink.old) (K.written sink.new) }
+    ensures cut { IsErrOf result RunFault.WriteFault
+        → PartCut number part.now (K.written sink.old) (K.written sink.new) }
     ensures broke { IsErrOf result RunFault.NoMemory → Appends (K.written sink.old) (K.written sink.new) [] }
 {
     match part {

@@ -150,7 +150,8 @@ fn run_prepared<K: Sink>(
     requires fitting { fits (memory_of store.old) ops.now ≡ true }
     requires few { length ops.now ≤ MOST }
     requires counts { CountsBelow (2 ^ 60) store.old }
-    ensures wrote { Wrote result (K.written sink.old) (K.written sink.new) (flat_map array_text (printed (memory_of store.old) ops.now)) }
+    ensures wrote { Wrote result (K.written sink.old) (K.written sink.new)
+        (flat_map array_text (printed (memory_of store.old) ops.now)) }
     ensures cause { Caused (K.faults sink.old) (K.faults sink.new) result }
     ensures memory { OnRan result (memory_of store.new ≡ without_slots (eager (memory_of store.old) ops.now)) }
     ensures moved { OnRan result (Moves (normal_form ops.now) prepared.now.planned.plan store.old store.new) }
@@ -193,7 +194,8 @@ pub fn flush_once<K: Sink>(
     ensures memory { OnOk result (memory_of store.new ≡ without_slots (eager (memory_of store.old) ops.now)) }
     ensures counts { OnOk result (RisesBy (2 ^ 32) store.old store.new) }
     ensures cause { Caused (K.faults sink.old) (K.faults sink.new) result }
-    ensures stopped { IsErrOf result RunFault.WriteFault → PartStopped choice number (memory_of store.old) (Flush ops.now)
+    ensures stopped { IsErrOf result RunFault.WriteFault
+        → PartStopped choice number (memory_of store.old) (Flush ops.now)
         (K.written sink.old) (K.written sink.new) store.old store.new }
     ensures broke { IsErrOf result RunFault.NoMemory → PartBroke choice number (memory_of store.old) (Flush ops.now)
         (K.written sink.old) (K.written sink.new) }

@@ -82,7 +82,8 @@ fn run_flush<K: Sink>(
     ensures cause { Caused (K.faults sink.old) (K.faults sink.new) result }
     ensures memory { OnOk result (memory_of store.new ≡ without_slots (eager (memory_of store.old) ops.now)) }
     ensures counts { OnOk result (RisesBy (2 ^ 32) store.old store.new) }
-    ensures stopped { IsErrOf result RunFault.WriteFault → PartStopped choice number (memory_of store.old) (Flush ops.now)
+    ensures stopped { IsErrOf result RunFault.WriteFault
+        → PartStopped choice number (memory_of store.old) (Flush ops.now)
         (K.written sink.old) (K.written sink.new) store.old store.new }
     ensures broke { IsErrOf result RunFault.NoMemory → PartBroke choice number (memory_of store.old) (Flush ops.now)
         (K.written sink.old) (K.written sink.new) }
@@ -137,7 +138,8 @@ pub(crate) fn run_parts<K: Sink>(
     ensures cause { Caused (K.faults sink.old) (K.faults sink.new) result }
     ensures memory { OnOk result (memory_of store.new ≡ after_parts (memory_of store.old) parts.now) }
     ensures stopped { IsErrOf result RunFault.WriteFault
-        → StoppedIn choice (memory_of store.old) parts.now (K.written sink.old) (K.written sink.new) store.old store.new }
+        → StoppedIn choice (memory_of store.old) parts.now (K.written sink.old)
+        (K.written sink.new) store.old store.new }
     ensures broke { IsErrOf result RunFault.NoMemory
         → BrokeIn choice (memory_of store.old) parts.now (K.written sink.old) (K.written sink.new) }
 {

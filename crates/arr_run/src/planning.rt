@@ -55,7 +55,8 @@ impl Planned {
 
     /// What a search found.
     fn searched(found: Found) -> Planned
-        ensures { (list : List Op) (number budget : ℕ) → IsBest list number budget found → Searched list number budget result }
+        ensures { (list : List Op) (number budget : ℕ) → IsBest list number budget found
+            → Searched list number budget result }
     {
         Planned {
             plan: found.plan,

@@ -82,18 +82,22 @@ pub fn serve<S: Source, C: Source, K: Sink>(
     ensures blames { Blames result (S.faults script.old) (S.faults script.new) (C.faults proof.old) (C.faults proof.new)
         (K.faults sink.old) (K.faults sink.new) }
     // An accepted script is run or checked, unless a fault or want of memory came.
-    ensures complete { (steps : List Step) → IsSome (command_of (map string_bytes words.now)) → Accepts (S.left script.old) steps
+    ensures complete { (steps : List Step) → IsSome (command_of (map string_bytes words.now))
+        → Accepts (S.left script.old) steps
         → (Rose (S.faults script.old) (S.faults script.new) → ⊥) → (Rose (C.faults proof.old) (C.faults proof.new) → ⊥)
-        → (Rose (K.faults sink.old) (K.faults sink.new) → ⊥) → Finishes (command_of (map string_bytes words.now)) result }
+        → (Rose (K.faults sink.old) (K.faults sink.new) → ⊥)
+        → Finishes (command_of (map string_bytes words.now)) result }
     // A demo is run, unless a fault or want of memory came.
     ensures demo { (number : ℕ) → command_of (map string_bytes words.now) ≡ Some (Command.Demo number)
         → (result ≡ 0) ⊎ (result ≡ 4) ⊎ (result ≡ 5) }
     // What was read.
     ensures read_out { ((number : ℕ) → command_of (map string_bytes words.now) ≡ Some (Command.Demo number) → ⊥)
         → HasRead result → IsReadOut (S.left script.old) (S.left script.new) }
-    ensures proof_out { result ≡ 0 → command_of (map string_bytes words.now) ≡ Some Command.Check → IsAtEnd (C.left proof.new) }
+    ensures proof_out { result ≡ 0 → command_of (map string_bytes words.now) ≡ Some Command.Check
+        → IsAtEnd (C.left proof.new) }
     ensures script { command_of (map string_bytes words.now) ≡ None → script.new ≡ script.old }
-    ensures unread { (number : ℕ) → command_of (map string_bytes words.now) ≡ Some (Command.Demo number) → script.new ≡ script.old }
+    ensures unread { (number : ℕ) → command_of (map string_bytes words.now) ≡ Some (Command.Demo number) → script.new
+        ≡ script.old }
     ensures proof { (command_of (map string_bytes words.now) ≡ Some Command.Check → ⊥) → proof.new ≡ proof.old }
 {
     match named_command(words) {
@@ -161,8 +165,10 @@ fn run_all<K: Sink>(
     ensures cause { result ≡ 4 → Rose (K.faults sink.old) (K.faults sink.new) }
     ensures memory { result ≡ 0 → memory_of store.new ≡ after_parts (memory_of store.old) parts.now }
     ensures stopped { result ≡ 4
-        → StoppedIn choice (memory_of store.old) parts.now (K.written sink.old) (K.written sink.new) store.old store.new }
-    ensures broke { result ≡ 5 → BrokeIn choice (memory_of store.old) parts.now (K.written sink.old) (K.written sink.new) }
+        → StoppedIn choice (memory_of store.old) parts.now (K.written sink.old)
+        (K.written sink.new) store.old store.new }
+    ensures broke { result ≡ 5 → BrokeIn choice (memory_of store.old) parts.now (K.written sink.old)
+        (K.written sink.new) }
 {
     match run_parts(alloc, choice, parts, store, sink) {
         Ok(()) => DONE,
@@ -181,7 +187,8 @@ fn demo<K: Sink>(alloc: Global, number: u64, store: &mut Store, sink: &mut K) ->
         result (K.written sink.old) (K.written sink.new) store.old store.new }
     ensures known { (result ≡ 0) ⊎ (result ≡ 4) ⊎ (result ≡ 5) }
     ensures emptied { result ≡ 0 → (b : ℕ) → cells store.new b ≡ None }
-    ensures blames { (reads proofs : ℕ) → Blames result reads reads proofs proofs (K.faults sink.old) (K.faults sink.new) }
+    ensures blames { (reads proofs : ℕ)
+        → Blames result reads reads proofs proofs (K.faults sink.old) (K.faults sink.new) }
     ensures complete { (Rose (K.faults sink.old) (K.faults sink.new) → ⊥) → (result ≡ 0) ⊎ (result ≡ 5) }
 {
     let Ok(script) = demo_script(alloc, number) else {
@@ -213,8 +220,10 @@ fn sum_all<K: Sink>(
     ensures later { K.faults sink.old ≤ K.faults sink.new }
     ensures cause { result ≡ 4 → Rose (K.faults sink.old) (K.faults sink.new) }
     ensures memory { result ≡ 0 → memory_of store.new ≡ after_parts (memory_of store.old) parts.now }
-    ensures cut { result ≡ 4 → DemoCut script.now (memory_of store.old) parts.now (K.written sink.old) (K.written sink.new) }
-    ensures broke { result ≡ 5 → DemoBroke script.now (memory_of store.old) parts.now (K.written sink.old) (K.written sink.new) }
+    ensures cut { result ≡ 4 → DemoCut script.now (memory_of store.old) parts.now (K.written sink.old)
+        (K.written sink.new) }
+    ensures broke { result ≡ 5 → DemoBroke script.now (memory_of store.old) parts.now (K.written sink.old)
+        (K.written sink.new) }
 {
     match run_demo(alloc, script, parts, store, sink) {
         Ok(()) => DONE,
@@ -259,7 +268,8 @@ fn judge<C: Source, K: Sink>(alloc: Global, parts: &[Part], proof: &mut C, sink:
     requires few { length parts.now ≤ 4_194_304 }
     ensures judges { Judges parts.now (C.left proof.old) result (K.written sink.old) (K.written sink.new) }
     ensures ended { result ≡ 0 → IsAtEnd (C.left proof.new) }
-    ensures blames { (reads : ℕ) → Blames result reads reads (C.faults proof.old) (C.faults proof.new) (K.faults sink.old) (K.faults sink.new) }
+    ensures blames { (reads : ℕ) → Blames result reads reads (C.faults proof.old) (C.faults proof.new)
+        (K.faults sink.old) (K.faults sink.new) }
 {
     match check_parts(alloc, parts, proof, sink) {
         Ok(count) => end_with(accepted_line(alloc, count), DONE, sink),
@@ -284,7 +294,8 @@ fn refuse<K: Sink>(alloc: Global, refusal: Refusal, sink: &mut K) -> u8
 /// Writes the last line, and answers the status that stands for it.
 fn end_with<K: Sink>(line: Result<Vec<u8>, NoMemory>, status: u8, sink: &mut K) -> u8
     requires whole { is_final status ≡ true }
-    ensures ended { (text : List ℕ) → IfOk line (λ found. found.items ≡ text) → Ended status result (K.written sink.old) (K.written sink.new) text }
+    ensures ended { (text : List ℕ) → IfOk line (λ found. found.items ≡ text)
+        → Ended status result (K.written sink.old) (K.written sink.new) text }
     ensures later { K.faults sink.old ≤ K.faults sink.new }
     ensures cause { result ≡ 4 → Rose (K.faults sink.old) (K.faults sink.new) }
 {

@@ -24,7 +24,8 @@ pub(crate) fn may_branch(graph: &Graph, state: &State, f: u32, g: u32) -> bool
 /// The first partner with which a node may branch on an operation.
 fn partner_of(graph: &Graph, state: &State, f: u32) -> Option<u32>
     requires list { state.now.list ≡ graph.now }
-    ensures { MatchOption result (HasNoPartner graph.now (known state.now) f) (λ g. may_branch (problem_of graph.now) (known state.now) f g ≡ true) }
+    ensures { MatchOption result (HasNoPartner graph.now (known state.now) f)
+        (λ g. may_branch (problem_of graph.now) (known state.now) f g ≡ true) }
 {
     for g in 0..graph.len() + 1 {
         if may_branch(graph, state, f, g) {

@@ -27,7 +27,9 @@ fn advance(state: &mut State, progress: &mut Progress, budget: u64) -> Result<Ou
     requires { progress.old.units ≤ budget }
     ensures list { state.new.list ≡ state.old.list }
     ensures about { (x : Fact) → IsTrue (known state.new x) → AreOps (problem_of state.new.list) x }
-    ensures advanced { IfOk result (λ outcome. Advanced (problem_of state.old.list) budget state.old.trail state.new.trail progress.old progress.new outcome) }
+    ensures advanced { IfOk result
+        (λ outcome. Advanced
+        (problem_of state.old.list) budget state.old.trail state.new.trail progress.old progress.new outcome) }
 {
     let before = progress.tree.len();
     let outcome = state.saturate(budget - progress.units, &mut progress.tree)?;
@@ -82,7 +84,8 @@ fn settle(
 fn take_one(state: &mut State, progress: &mut Progress, step: &Reason) -> Result<(), NoMemory>
     requires { progress.old.units + 1 < 2 ^ 64 }
     ensures list { state.new.list ≡ state.old.list }
-    ensures took { IfOk result (λ done. Took (problem_of state.old.list) (progress.old.units + 1) state.old.trail state.new.trail progress.old progress.new) }
+    ensures took { IfOk result (λ done. Took (problem_of state.old.list)
+        (progress.old.units + 1) state.old.trail state.new.trail progress.old progress.new) }
 {
     let taken = state.take_step(step.rule, step.f, step.g, step.h, &mut progress.tree)?;
     if !taken {
@@ -101,7 +104,8 @@ fn take_all(
 ) -> Result<(), NoMemory>
     requires { progress.old.units ≤ budget }
     ensures list { state.new.list ≡ state.old.list }
-    ensures took { IfOk result (λ done. Took (problem_of state.old.list) budget state.old.trail state.new.trail progress.old progress.new) }
+    ensures took { IfOk result (λ done. Took
+        (problem_of state.old.list) budget state.old.trail state.new.trail progress.old progress.new) }
 {
     for step in steps {
         if progress.units >= budget {
@@ -127,7 +131,8 @@ fn work_whole(
     requires node { IsNode (problem_of graph.now) (known state.old) }
     requires within { progress.old.units ≤ budget }
     ensures list { state.new.list ≡ state.old.list }
-    ensures worked { IfOk result (λ next. WorkedOn graph.now budget state.old.trail state.new.trail progress.old progress.new next) }
+    ensures worked { IfOk result
+        (λ next. WorkedOn graph.now budget state.old.trail state.new.trail progress.old progress.new next) }
 {
     match advance(state, progress, budget)? {
         Outcome::Contradiction(f, g) => {
@@ -186,7 +191,8 @@ fn work_by(
     requires low { floor (problem_of graph.now) (known state.old) < progress.old.cost }
     requires opens { opens ≡ true → IsAmple (problem_of graph.now) budget → 0 < progress.old.units }
     ensures list { state.new.list ≡ state.old.list }
-    ensures worked { IfOk result (λ next. Worked graph.now budget state.old.trail state.new.trail progress.old progress.new next) }
+    ensures worked { IfOk result
+        (λ next. Worked graph.now budget state.old.trail state.new.trail progress.old progress.new next) }
 {
     if hint.is_empty() {
         return work_whole(alloc, graph, views, state, candidates, progress, budget);
@@ -226,7 +232,8 @@ pub(crate) fn work(
     requires within { progress.old.units ≤ budget }
     ensures list { state.new.list ≡ state.old.list }
     ensures draft { draft.new.state.list ≡ draft.old.state.list }
-    ensures worked { IfOk result (λ next. Worked graph.now budget state.old.trail state.new.trail progress.old progress.new next) }
+    ensures worked { IfOk result
+        (λ next. Worked graph.now budget state.old.trail state.new.trail progress.old progress.new next) }
 {
     let (worth, groups) = charges(alloc, views, state)?;
     if worth >= progress.cost {

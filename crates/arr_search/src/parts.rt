@@ -36,7 +36,8 @@ fn with_label(alloc: Global, labels: &[u32], label: u32) -> Result<Vec<u32>, NoM
 }
 
 fn push_some(blocks: &mut Vec<Vec<u32>>, block: Vec<u32>) -> Result<(), NoMemory>
-    ensures { IfOk result (λ done. map (λ b. b.items) blocks.new.items ≡ map (λ b. b.items) blocks.old.items ++ if_some block.items) }
+    ensures { IfOk result (λ done. map (λ b. b.items) blocks.new.items
+        ≡ map (λ b. b.items) blocks.old.items ++ if_some block.items) }
 {
     if block.len() > 0 {
         blocks.push(block)?;

@@ -32,7 +32,8 @@ pub(crate) fn close_leaf(
     worth: u64,
     groups: Charges,
 ) -> Result<(), NoMemory>
-    ensures { IfOk result (λ done. progress.new ≡ record progress.old { tree = progress.old.tree ++ Worth groups ∷ []; least = min progress.old.least worth }) }
+    ensures { IfOk result (λ done. progress.new
+        ≡ record progress.old { tree = progress.old.tree ++ Worth groups ∷ []; least = min progress.old.least worth }) }
 {
     progress.tree.push(Record::Worth(groups))?;
     progress.least = progress.least.min(worth);
@@ -50,7 +51,8 @@ pub(crate) fn close_dead(progress: &mut Progress, f: u32, g: u32) -> Result<(), 
 /// Ends a node by a branch.
 pub(crate) fn open_branch(progress: &mut Progress, f: u32, g: u32) -> Result<(), NoMemory>
     requires { progress.old.units + 1 < 2 ^ 64 }
-    ensures { IfOk result (λ done. progress.new ≡ record progress.old { tree = progress.old.tree ++ Branch f g ∷ []; units = progress.old.units + 1 }) }
+    ensures { IfOk result (λ done. progress.new
+        ≡ record progress.old { tree = progress.old.tree ++ Branch f g ∷ []; units = progress.old.units + 1 }) }
 {
     progress.tree.push(Record::Branch { f, g })?;
     progress.units += 1;

@@ -108,7 +108,8 @@ impl Rows {
         requires second_least { 0 < g }
         requires second_bound { g ≤ self.old.count }
         ensures count { self.new.count ≡ self.old.count }
-        ensures pairs { (x y : ℕ) → 0 < x → x ≤ self.old.count → 0 < y → y ≤ self.old.count → has_pair self.new x y ≡ (has_pair self.old x y || (x == f && y == g)) }
+        ensures pairs { (x y : ℕ) → 0 < x → x ≤ self.old.count → 0 < y → y ≤ self.old.count → has_pair self.new x y
+            ≡ (has_pair self.old x y || (x == f && y == g)) }
     {
         self.bits.insert((f - 1) * self.count + (g - 1));
     }

@@ -147,7 +147,9 @@ fn cut_view(view: &View, cuts: &[Cut]) -> View
 /// left.
 pub fn slice(view: &View, slices: &[Slice]) -> Result<View, ShapeFault>
     ensures view { result ≡ slice view.now slices.now }
-    ensures elements { IfOk result (λ (cut : Strided). (index : List ℕ) → IsTrue (is_index cut.lengths index) → element_at cut index ≡ element_at view.now (picked (taken view.now.lengths slices.now) index)) }
+    ensures elements { IfOk result
+        (λ (cut : Strided). (index : List ℕ) → IsTrue (is_index cut.lengths index) → element_at cut index
+        ≡ element_at view.now (picked (taken view.now.lengths slices.now) index)) }
 {
     if slices.len() > view.shape().len() {
         return Err(ShapeFault::RankRange);

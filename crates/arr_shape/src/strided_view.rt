@@ -57,7 +57,8 @@ pub fn strided(
 ) -> Result<View, ShapeFault>
     requires { IsTrue (is_shape shape.now) }
     ensures view { result ≡ strided base length start shape.now strides.now }
-    ensures elements { IfOk result (λ (view : Strided). map pos (elements view) ≡ places shape.now strides.now (pos start)) }
+    ensures elements { IfOk result
+        (λ (view : Strided). map pos (elements view) ≡ places shape.now strides.now (pos start)) }
 {
     if strides.len() != shape.len() {
         return Err(ShapeFault::RankRange);

@@ -16,7 +16,9 @@ use arrayvec::ArrayVec;
 pub fn spread(view: &View, shape: &[u32]) -> Result<View, ShapeFault>
     requires { IsTrue (is_shape shape.now) }
     ensures view { result ≡ spread view.now shape.now }
-    ensures elements { IfOk result (λ (wide : Strided). (index : List ℕ) → IsTrue (is_index shape.now index) → element_at wide index ≡ element_at view.now (spread_from view.now.lengths index)) }
+    ensures elements { IfOk result
+        (λ (wide : Strided). (index : List ℕ) → IsTrue (is_index shape.now index) → element_at wide index
+        ≡ element_at view.now (spread_from view.now.lengths index)) }
 {
     if view.shape().len() > shape.len() {
         return Err(ShapeFault::ShapeMismatch);
@@ -50,7 +52,8 @@ fn reversed<T: Copy + Default + Drop>(list: &[T]) -> ArrayVec<T, 4>
 /// The view with its dimensions in the opposite order: the element at an index is that of the view at the index turned round.
 pub fn transpose(view: &View) -> View
     ensures view { result ≡ transpose view.now }
-    ensures elements { (index : List ℕ) → IsTrue (is_index view.now.lengths index) → element_at result (reverse index) ≡ element_at view.now index }
+    ensures elements { (index : List ℕ) → IsTrue (is_index view.now.lengths index) → element_at result (reverse index)
+        ≡ element_at view.now index }
 {
     let shape = reversed(view.shape());
     let strides = reversed(view.strides());

@@ -141,7 +141,8 @@ pub fn shift(out: &View, input: &View, store: &mut Store, lane: &mut Buffer, roo
         (read (cells store.old out.now.base) (elements input.now)) (cells store.old) }
     ensures elem { (cell_of lane.new).elem ≡ (cell_of lane.old).elem }
     ensures length { length (cell_of lane.new).numbers ≡ length (cell_of lane.old).numbers }
-    ensures loads { store.new.loads ≡ store.old.loads + positions out.now.lengths * width_at (cells store.old out.now.base) }
+    ensures loads { store.new.loads
+        ≡ store.old.loads + positions out.now.lengths * width_at (cells store.old out.now.base) }
     ensures stores { store.new.stores
         ≡ store.old.stores + positions out.now.lengths * width_at (cells store.old out.now.base) }
     ensures made { store.new.made ≡ store.old.made }

@@ -62,7 +62,11 @@ impl Buffer {
     pub(crate) fn put(&mut self, place: u32, value: i128)
         requires place { place < length (cell_of self.old).numbers }
         requires typed { IsTrue (in_type (cell_of self.old).elem value) }
-        ensures { cell_of self.new ≡ record { elem = (cell_of self.old).elem; numbers = set (cell_of self.old).numbers place value } }
+        ensures { cell_of self.new ≡ record {
+          elem = (cell_of self.old).elem;
+          numbers = set
+              (cell_of self.old).numbers place value;
+        } }
     {
         match self {
             Buffer::Bytes(numbers) => numbers[place as usize] = value as u8,

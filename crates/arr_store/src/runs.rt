@@ -63,7 +63,8 @@ impl Buffer {
         requires there { LiesIn (length (cell_of self.old).numbers) run.start run.stride run.count }
         ensures cell { cell_of self.new ≡ with_places (cell_of self.old) (run_places run.start run.stride run.count)
             (take run.count (drop at (cell_of lane.now).numbers)) }
-        ensures typed { list_all (in_type (cell_of self.old).elem) (take run.count (drop at (cell_of lane.now).numbers)) ≡ true }
+        ensures typed { list_all (in_type (cell_of self.old).elem)
+            (take run.count (drop at (cell_of lane.now).numbers)) ≡ true }
     {
         match self {
             Buffer::Bytes(out) => match lane {

@@ -120,7 +120,8 @@ impl Store {
         requires there { place < size_at (cells self.old base) }
         requires typed { IsTrue (takes (cells self.old base) value) }
         requires room { self.old.stores < 2 ^ 62 }
-        ensures bases { cells self.new ≡ assigned (cells self.old) base (with_number (cells self.old base) place value) }
+        ensures bases { cells self.new
+            ≡ assigned (cells self.old) base (with_number (cells self.old base) place value) }
         ensures loads { self.new.loads ≡ self.old.loads }
         ensures stores { self.new.stores ≡ self.old.stores + width_at (cells self.old base) }
         ensures made { self.new.made ≡ self.old.made }
@@ -161,7 +162,8 @@ impl Store {
 
 /// Lengthens the index so that it has the base.
 pub(crate) fn cover(index: &mut Vec<usize>, base: u32) -> Result<(), NoMemory>
-    ensures covered { OnOk result (index.new.items ≡ index.old.items ++ replicate (base + 1 - length index.old.items) 0) }
+    ensures covered { OnOk result (index.new.items
+        ≡ index.old.items ++ replicate (base + 1 - length index.old.items) 0) }
     ensures refused { OnErr result (index.new.items ≡ index.old.items) }
 {
     let count = base as usize + 1;

@@ -37,7 +37,8 @@ pub(crate) fn fold_lane<T: Lane>(
     requires sums { at < length sums.old }
     requires typed { in_type T.elem (get_or sums.old at (pos 0)) ≡ true }
     requires source { from + count ≤ length source.now }
-    ensures { StepsEach T.elem (λ sum x. fold_from T.elem T.number code sum source.now from count) sums.old (λ j. pos 0) at 1 sums.new }
+    ensures { StepsEach T.elem (λ sum x. fold_from T.elem T.number code sum source.now from count) sums.old
+        (λ j. pos 0) at 1 sums.new }
 {
     sums[at] = fold_run(code, source, from, count, T::narrow(sums[at])).widen();
 }

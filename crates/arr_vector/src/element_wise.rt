@@ -48,7 +48,8 @@ pub fn compute<T: Native>(code: Code, out: &mut [T], a: &[T], b: &[T], count: us
     requires a { count ≤ length a.now }
     requires b { count ≤ length b.now }
     ensures length { length out.new ≡ length out.old }
-    ensures each { (i : ℕ) → i < count → entry T.number out.new i ≡ value code T.elem (entry T.number a.now i) (entry T.number b.now i) }
+    ensures each { (i : ℕ) → i < count → entry T.number out.new i
+        ≡ value code T.elem (entry T.number a.now i) (entry T.number b.now i) }
 {
     match code {
         Code::Divide => divide(out, a, b, count),
@@ -82,7 +83,8 @@ fn divide<T: Native>(out: &mut [T], a: &[T], b: &[T], count: usize)
     requires a { count ≤ length a.now }
     requires b { count ≤ length b.now }
     ensures length { length out.new ≡ length out.old }
-    ensures each { (i : ℕ) → i < count → entry T.number out.new i ≡ value Code.Divide T.elem (entry T.number a.now i) (entry T.number b.now i) }
+    ensures each { (i : ℕ) → i < count → entry T.number out.new i
+        ≡ value Code.Divide T.elem (entry T.number a.now i) (entry T.number b.now i) }
 {
     by_divisor!(Code::Divide, out, a, b, count)
 }
@@ -93,7 +95,8 @@ fn remain<T: Native>(out: &mut [T], a: &[T], b: &[T], count: usize)
     requires a { count ≤ length a.now }
     requires b { count ≤ length b.now }
     ensures length { length out.new ≡ length out.old }
-    ensures each { (i : ℕ) → i < count → entry T.number out.new i ≡ value Code.Mod T.elem (entry T.number a.now i) (entry T.number b.now i) }
+    ensures each { (i : ℕ) → i < count → entry T.number out.new i
+        ≡ value Code.Mod T.elem (entry T.number a.now i) (entry T.number b.now i) }
 {
     by_divisor!(Code::Mod, out, a, b, count)
 }
@@ -124,7 +127,8 @@ pub fn compare<T: Native>(code: Code, out: &mut [u8], a: &[T], b: &[T], count: u
     requires a { count ≤ length a.now }
     requires b { count ≤ length b.now }
     ensures length { length out.new ≡ length out.old }
-    ensures each { (i : ℕ) → i < count → entry pos out.new i ≡ value code Elem.U8 (entry T.number a.now i) (entry T.number b.now i) }
+    ensures each { (i : ℕ) → i < count → entry pos out.new i
+        ≡ value code Elem.U8 (entry T.number a.now i) (entry T.number b.now i) }
 {
     table!(
         T::compare,
@@ -147,7 +151,8 @@ pub fn raise<T: Native>(out: &mut [T], a: &[T], exponent: u64, count: usize)
     requires out { count ≤ length out.old }
     requires a { count ≤ length a.now }
     ensures length { length out.new ≡ length out.old }
-    ensures each { (i : ℕ) → i < count → entry T.number out.new i ≡ value Code.Power T.elem (entry T.number a.now i) (pos exponent) }
+    ensures each { (i : ℕ) → i < count → entry T.number out.new i
+        ≡ value Code.Power T.elem (entry T.number a.now i) (pos exponent) }
 {
     for i in 0..count {
         out[i] = T::raise(a[i], exponent);
@@ -159,7 +164,8 @@ pub fn convert<T: Native, U: Native>(out: &mut [U], a: &[T], count: usize)
     requires out { count ≤ length out.old }
     requires a { count ≤ length a.now }
     ensures length { length out.new ≡ length out.old }
-    ensures each { (i : ℕ) → i < count → entry U.number out.new i ≡ value Code.Identity U.elem (entry T.number a.now i) (pos 0) }
+    ensures each { (i : ℕ) → i < count → entry U.number out.new i
+        ≡ value Code.Identity U.elem (entry T.number a.now i) (pos 0) }
 {
     for i in 0..count {
         out[i] = U::from_bits(a[i].bits());
@@ -171,7 +177,8 @@ pub fn count_up<T: Native>(out: &mut [T], position: u64, count: usize)
     requires out { count ≤ length out.old }
     requires few { position + count ≤ 1048576 }
     ensures length { length out.new ≡ length out.old }
-    ensures each { (i : ℕ) → i < count → entry T.number out.new i ≡ value Code.Range T.elem (pos (position + i)) (pos 0) }
+    ensures each { (i : ℕ) → i < count → entry T.number out.new i
+        ≡ value Code.Range T.elem (pos (position + i)) (pos 0) }
 {
     for i in 0..count {
         out[i] = T::from_bits(position + i as u64);
@@ -194,7 +201,8 @@ fn zip_with<T: Native, U: Native, F: Fn(T, T) -> U>(
     requires callable { F.IsAlwaysCallable f }
     requires values { (x y : T) (z : U) → F.post f x y z → U.number z ≡ value _code U.elem (T.number x) (T.number y) }
     ensures length { length out.new ≡ length out.old }
-    ensures each { (i : ℕ) → i < count → entry U.number out.new i ≡ value _code U.elem (entry T.number a.now i) (entry T.number b.now i) }
+    ensures each { (i : ℕ) → i < count → entry U.number out.new i
+        ≡ value _code U.elem (entry T.number a.now i) (entry T.number b.now i) }
 {
     for i in 0..count {
         out[i] = f(a[i], b[i]);
@@ -217,9 +225,11 @@ fn map_with<T: Native, U: Native, F: Fn(T) -> U>(
     requires a { count ≤ length a.now }
     requires constant { (i : ℕ) → i < count → entry T.number _b.now i ≡ wrap T.elem (pos _bits) }
     requires callable { F.IsAlwaysCallable f }
-    requires values { (x : T) (z : U) → F.post f x z → U.number z ≡ value _code U.elem (T.number x) (wrap T.elem (pos _bits)) }
+    requires values { (x : T) (z : U) → F.post f x z → U.number z
+        ≡ value _code U.elem (T.number x) (wrap T.elem (pos _bits)) }
     ensures length { length out.new ≡ length out.old }
-    ensures each { (i : ℕ) → i < count → entry U.number out.new i ≡ value _code U.elem (entry T.number a.now i) (entry T.number _b.now i) }
+    ensures each { (i : ℕ) → i < count → entry U.number out.new i
+        ≡ value _code U.elem (entry T.number a.now i) (entry T.number _b.now i) }
 {
     for i in 0..count {
         out[i] = f(a[i]);

@@ -37,7 +37,8 @@ pub const MOST_ELEMENTS: u32 = 1_048_576;
 
 /// The number of positions of a shape; `None` where a length is 0 or there are too many positions.
 fn counted(lengths: &[u32]) -> Option<u32>
-    ensures { result ≡ cond (list_all (nat_le 1) lengths.now && nat_le (positions lengths.now) most_elements) (Some (positions lengths.now)) None }
+    ensures { result ≡ cond (list_all (nat_le 1) lengths.now && nat_le (positions lengths.now) most_elements)
+        (Some (positions lengths.now)) None }
 {
     let mut count: u64 = 1;
     for length in lengths {

@@ -34,7 +34,9 @@ impl Model for Walk {
 
 /// The last dimension that has steps left.
 fn last_open(left: &[u32]) -> Option<usize>
-    ensures { MatchOption result (list_all (λ r. r == 0) left.now ≡ true) (λ k. (k < length left.now) × (0 < get_or left.now k 0) × (list_all (λ r. r == 0) (drop (k + 1) left.now) ≡ true)) }
+    ensures { MatchOption result (list_all (λ r. r == 0) left.now ≡ true)
+        (λ k. (k < length left.now) × (0 < get_or left.now k 0)
+        × (list_all (λ r. r == 0) (drop (k + 1) left.now) ≡ true)) }
 {
     let mut level = left.len();
     while level > 0 {
