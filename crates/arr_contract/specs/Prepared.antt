@@ -32,9 +32,9 @@ may_share_block ops =
 abbrev pub widest : List Op → ℕ
 widest ops = fold max 1 (flat_map (λ (op : Op). width op.to ∷ width op.from ∷ []) ops)
 
--- how many positions a strip has at most: 2,048 bytes by the widest type, and no more than the block has positions, but at least 1
+-- how many positions a strip has at most: 4,096 bytes by the widest type, and no more than the block has positions, but at least 1
 abbrev pub strip : List Op → ℕ
-strip ops = max (min (2048 / widest ops) (block_positions ops)) 1
+strip ops = max (min (4096 / widest ops) (block_positions ops)) 1
 
 -- ---- a serial block that copies a view some places on
 

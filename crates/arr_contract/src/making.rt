@@ -29,7 +29,7 @@ use arr_view::View;
 use std::alloc::Global;
 
 /// How many bytes of numbers a lane holds at most.
-const LANE_BYTES: usize = 2048;
+const LANE_BYTES: usize = 4096;
 
 /// How many positions an operation walks; `None` for FREE.
 fn walked_positions(op: &Op) -> Option<u32>
@@ -83,9 +83,9 @@ fn width(ty: Elem) -> usize
 
 /// How many positions a strip of a block has at most: its lanes hold few bytes, and no more numbers than it has positions.
 fn room_of(ops: &[Op], positions: u32) -> usize
-    ensures exact { result ≡ max (min (2048 / widest ops.now) positions) 1 }
+    ensures exact { result ≡ max (min (4096 / widest ops.now) positions) 1 }
     ensures some { 1 ≤ result }
-    ensures most { result ≤ 2048 }
+    ensures most { result ≤ 4096 }
 {
     let room = (LANE_BYTES / widest(ops)).min(positions as usize);
     room.max(1)

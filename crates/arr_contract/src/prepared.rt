@@ -43,7 +43,7 @@ use std::marker::Model;
 /// A block of a legal plan, with all that running it takes (docs/PLANS.md, "Running a block"). A contract sees the block's operations in
 /// list order and the numbers that it keeps as scratch. Beside these numbers a block without a serial operation has its lanes: one for each
 /// distinct view, one for each constant and one spare a type, each with room for as many numbers as a strip has positions (`strip`).
-/// A block with a serial operation has one lane of 2,048 bytes.
+/// A block with a serial operation has one lane of 4,096 bytes.
 #[derive(Drop)]
 pub struct Prepared {
     ops: Vec<Op>,

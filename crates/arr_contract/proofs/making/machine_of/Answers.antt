@@ -52,4 +52,4 @@ returns-clause-machine c =
     }
 
 pub returns-clause-strip : goal.returns-clause-strip
-returns-clause-strip c = c.room_of-room.ensures.exact ∙ ap (λ n. max (min (2048 / widest c.args.ops.now) n) 1) c.positions_of-positions.ensures
+returns-clause-strip c = c.room_of-room.ensures.exact ∙ ap (λ n. max (min (4096 / widest c.args.ops.now) n) 1) c.positions_of-positions.ensures
