@@ -11,7 +11,7 @@ use Rattle.arr_syntax.specs.declared.state.Field.{Field}
 use Rattle.arr_syntax.specs.declared.state.Field.TheVariants as field
 use Rattle.arr_tree.specs.declared.tree.Cut.{Cut}
 use Rattle.arr_syntax.specs.Grammar as grammar
-use Rattle.arr_tree.specs.Trees.{cut, literal_at, lengths_at, steps_at}
+use Rattle.arr_tree.specs.Trees.{cut, lengths_at, steps_at}
 use Rattle.arr_syntax.specs.Grammar.{Listed, Length, Stride, Slice, plain, negative, last, and_more, bracketed, one_length, one_stride, no_bound, one_bound, no_step, one_step, short, long}
 use Rattle.arr_syntax.specs.Machine.{fill}
 use Rattle.arr_syntax.proofs.Completes.{FieldIn, NextField, LengthIn, StrideIn, MoreStridesIn, StartIn, AfterStepIn, StepIn, AfterStopIn, StopIn}

@@ -31,7 +31,6 @@ use Rattle.arr_tree.specs.declared.tree.Word.{Word}
 use Rattle.arr_tree.specs.declared.tree.Expr.{Expr}
 use Rattle.arr_tree.specs.declared.tree.Statement.{Statement}
 use Rattle.arr_syntax.specs.Grammar as grammar
-use Rattle.arr_tree.specs.Trees.{index_at, name_of, word_at, unary_at, binary_at}
 use Rattle.arr_syntax.specs.Grammar.{IsSign, IsKeyword, Rest, Level, Primary, Placed, ViewCall, Argument, Ends, Script, OneStatement, operator, comparison}
 use Rattle.arr_syntax.specs.Machine as machine
 use Rattle.arr_syntax.specs.Machine.{level, rank, either, behind, goes, give, leaves, fits, step, again, wanted, fresh, with_tree, fill, level_of, inner, wanted_in, tree_of, stated, onward, opened, opens, frame, target, bound}

@@ -1,5 +1,5 @@
 -- A script has at least as many tokens as operations that its trees can record.
-use Rattle.std.proofs.Common.{ℕ, ◌+◌, ◌≤◌, ℤ, List, [], ◌∷◌, Bool, Option, length, arith}
+use Rattle.std.proofs.Common.{ℕ, ◌+◌, ◌≤◌, ℤ, List, Bool, Option, length, arith}
 use Rattle.arr_tree.specs.declared.refusal.Place.{Place}
 use Rattle.arr_tree.specs.declared.tree.Code16.TheVariants as code
 use Rattle.arr_tree.specs.declared.tree.Type4.{Type4}

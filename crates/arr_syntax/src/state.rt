@@ -128,7 +128,8 @@ pub struct Frame {
     pub level: u8,
 }
 
-/// Where the reading of a script stands.
+/// Where the reading of a script stands. Who has no more use for it calls `drop`: a drop that no call makes is proved
+/// leaf by leaf.
 #[derive(Drop)]
 pub enum State {
     /// At the beginning of a line.
