@@ -10,9 +10,8 @@ use Rattle.arr_ops.proofs.Legality.{distinct_of}
 use Rattle.arr_heur.specs.Planners.{union}
 use Rattle.arr_greedy.specs.Blocks.{live, row_at, Keyed}
 use Rattle.arr_greedy.specs.Fast.{next_pair}
-use Rattle.arr_greedy.proofs.Fast.{Kept, turn}
+use Rattle.arr_greedy.proofs.Fast.{Kept, Saves, block_found, turn}
 use Rattle.arr_greedy.proofs.BlockMerges.{joined}
-use Rattle.arr_greedy.proofs.Turns.{block_found}
 use Rattle.arr_greedy.proofs.KeyedBlocks.{block_live}
 
 pub record Chosen (list : List Op) (rows : List (List ℕ)) (x y : ℕ) : Type 0 where
@@ -22,10 +21,10 @@ pub record Chosen (list : List Op) (rows : List (List ℕ)) (x y : ℕ) : Type 0
   pub right_block : not_empty (row_at rows y) ≡ true
   pub key : least_of (union (numbered list) (row_at rows x) (row_at rows y)) ≡ x
 
-pub chosen_rows : (list : List Op) (rows : List (List ℕ)) (F R : ℕ → ℕ → Bool) (V : ℕ → ℕ → ℕ) (keys : List ℕ) (x y : ℕ) → Kept list (live rows) F R V → keys ≡ map least_of (live rows) → next_pair F R V keys ≡ Some (x, y)
+pub chosen_rows : (list : List Op) (rows : List (List ℕ)) (F R : ℕ → ℕ → Bool) (V : ℕ → ℕ → ℕ) (keys : List ℕ) (x y : ℕ) → Kept list (live rows) F R → Saves list (live rows) F R V → keys ≡ map least_of (live rows) → next_pair F R V keys ≡ Some (x, y)
     → Keyed rows → x < length rows → y < length rows → Chosen list rows x y
-chosen_rows list rows F R V keys x y k ek e h lx ly =
-    let t = turn list (live rows) F R V k x y (ap (next_pair F R V) (sym ek) ∙ e) in
+chosen_rows list rows F R V keys x y k saves ek e h lx ly =
+    let t = turn list (live rows) F R V k saves x y (ap (next_pair F R V) (sym ek) ∙ e) in
     let d = distinct_of (length list) (live rows) k.partition in
     let left : row_at rows x ≡ t.left = sym (block_live rows x h lx) ∙ block_found (live rows) d t.left t.in_left x t.key_left in
     let right : row_at rows y ≡ t.right = sym (block_live rows y h ly) ∙ block_found (live rows) d t.right t.in_right y t.key_right in
@@ -45,10 +44,10 @@ chosen_rows list rows F R V keys x y k ek e h lx ly =
       key = ap₂ (λ a b. least_of (union (numbered list) a b)) left right ∙ j.same_key ∙ kl;
     }
 
-pub chosen_now : (list : List Op) (rows : List (List ℕ)) (F R : ℕ → ℕ → Bool) (V : ℕ → ℕ → ℕ) (keys : List ℕ) (n w x y : ℕ) → Kept list (live rows) F R V → keys ≡ map least_of (live rows) → next_pair F R V keys ≡ Some (x, y)
+pub chosen_now : (list : List Op) (rows : List (List ℕ)) (F R : ℕ → ℕ → Bool) (V : ℕ → ℕ → ℕ) (keys : List ℕ) (n w x y : ℕ) → Kept list (live rows) F R → Saves list (live rows) F R V → keys ≡ map least_of (live rows) → next_pair F R V keys ≡ Some (x, y)
     → Keyed rows → length rows ≡ n → n ≡ w → (nat_lt x w && nat_lt y w) ≡ true → Chosen list rows x y
-chosen_now list rows F R V keys n w x y k ek e h long wide below =
+chosen_now list rows F R V keys n w x y k saves ek e h long wide below =
     let both = and_parts (nat_lt x w) (nat_lt y w) below in
     let left : x < w = ltb-true x w both.0 in
     let right : y < w = ltb-true y w both.1 in
-    chosen_rows list rows F R V keys x y k ek e h (omega arith) (omega arith)
+    chosen_rows list rows F R V keys x y k saves ek e h (omega arith) (omega arith)

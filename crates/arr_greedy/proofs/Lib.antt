@@ -2,8 +2,10 @@ mod Ways
 mod BlockMerges
 mod Fast
 mod Scan
+mod Bounds
 mod Cells
 mod Turns
+mod Carried
 mod Opening
 mod Filling
 mod KeyedBlocks

@@ -36,7 +36,7 @@ better_joins w (Some x) (Some y) None = none (nat_lt (w x) (w y))
     none false = refl
 better_joins w (Some x) (Some y) (Some z) = three w x y z (nat_lt (w x) (w y)) (nat_lt (w y) (w z)) refl refl
 
-better_none : {X : Type 0} (w : X → ℕ) (o : Option X) → better w o None ≡ o
+pub better_none : {X : Type 0} (w : X → ℕ) (o : Option X) → better w o None ≡ o
 better_none w None = refl
 better_none w (Some x) = refl
 

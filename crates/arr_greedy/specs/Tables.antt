@@ -1,7 +1,9 @@
 -- What a table says, row by row.
-use Rattle.std.specs.Prelude.{ℕ, ◌≡◌, ◌<◌, ◌≤◌, ◌≢◌, ◌==◌, ◌&&◌, ◌||◌, List, Bool, Option, Some, cond, false, not}
+use Rattle.std.specs.Prelude.{ℕ, ◌≡◌, ◌<◌, ◌≤◌, ◌≢◌, ◌==◌, ◌&&◌, ◌||◌, List, Bool, Option, None, Some, cond, false, get_or, not, true}
 use Rattle.arr_view.specs.Views.{has}
-use Rattle.arr_greedy.specs.Fast.{amount, best_after, flag, may_merge, row_pairs, saves_more}
+use Rattle.arr_ops.specs.Order.{In}
+use Rattle.arr_heur.specs.Planners.{pairs}
+use Rattle.arr_greedy.specs.Fast.{amount, best_after, covers, flag, may_merge, row_pairs, saves_more}
 use Rattle.arr_greedy.specs.Ways.{gains, reach_after}
 
 -- a table of width w has at each row and column what a function gives
@@ -50,3 +52,8 @@ better_pair fuses reaches saved w keys found x y = cond (may_merge (flag fuses w
 -- the best pair of one with each of others, after what was found before
 abbrev pub best_in_row : List Bool → List Bool → List ℕ → ℕ → List ℕ → Option (ℕ × ℕ) → ℕ → List ℕ → Option (ℕ × ℕ)
 best_in_row fuses reaches saved w keys before x others = best_after (λ (p : ℕ × ℕ). amount saved w p.0 p.1) (may_merge (flag fuses w) (flag reaches w) keys) before (row_pairs x others)
+
+-- each pair of keys that may be merged saves no more than the bound of its row
+abbrev pub Bounded : List Bool → List Bool → List ℕ → ℕ → List (Option ℕ) → List ℕ → Type 0
+Bounded fuses reaches saved w bounds keys =
+    (p : ℕ × ℕ) → In p (pairs keys) → may_merge (flag fuses w) (flag reaches w) keys p ≡ true → covers (get_or bounds p.0 None) (amount saved w p.0 p.1) ≡ true

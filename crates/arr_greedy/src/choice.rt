@@ -1,9 +1,11 @@
 //! Which two blocks are merged next.
-ghost use Rattle.std.specs.Prelude.{◌≡◌, ◌<◌, ◌*◌, length, IsTrue, drop, ◌&&◌, ◌≤◌, Some};
+ghost use Rattle.std.specs.Prelude.{◌≡◌, ◌<◌, ◌+◌, ◌*◌, length, IsTrue, None, drop, get_or, nat_lt, ◌≤◌};
 ghost use Rattle.std.specs.List.{All, list_any};
-ghost use Rattle.arr_greedy.specs.Fast.{amount, flag, found_below, next_pair, saves_more};
+ghost use Rattle.std.specs.Option.{option_map};
+ghost use Rattle.arr_ops.specs.Formed.{all_pairs};
+ghost use Rattle.arr_greedy.specs.Fast.{amount, better, flag, found_below, may_beat, may_merge, next_pair, saves_more};
 ghost use Rattle.arr_greedy.specs.Ways.{lies_between};
-ghost use Rattle.arr_greedy.specs.Tables.{best_in_row, better_pair};
+ghost use Rattle.arr_greedy.specs.Tables.{Bounded, best_in_row, better_pair};
 
 /// The flag of a row and a column.
 pub(crate) fn at(rows: &[bool], width: usize, row: usize, column: usize) -> bool
@@ -54,24 +56,23 @@ fn some_lies(keys: &[usize], reaches: &[bool], width: usize, left: usize, right:
     false
 }
 
-/// The same; those from a place on are asked first.
-fn some_lies_from(
+/// Whether two blocks may be merged.
+pub(crate) fn may_merge(
     keys: &[usize],
-    from: usize,
+    fuses: &[bool],
     reaches: &[bool],
     width: usize,
     left: usize,
     right: usize,
 ) -> bool
-    requires from_in { from ≤ length keys.now }
     requires left_in { left < width }
     requires right_in { right < width }
     requires keys_in { All (λ k. k < width) keys.now }
-    requires size { length reaches.now ≡ width * width }
-    ensures { result ≡ list_any (lies_between (λ k. k) (flag reaches.now width) left right) keys.now }
+    requires fuses_size { length fuses.now ≡ width * width }
+    requires reaches_size { length reaches.now ≡ width * width }
+    ensures { result ≡ may_merge (flag fuses.now width) (flag reaches.now width) keys.now (left, right) }
 {
-    let (front, back) = keys.split_at(from);
-    some_lies(back, reaches, width, left, right) || some_lies(front, reaches, width, left, right)
+    at(fuses, width, left, right) && !some_lies(keys, reaches, width, left, right)
 }
 
 /// Whether a pair saves more than the one found so far.
@@ -94,11 +95,9 @@ fn saves_more(
     }
 }
 
-/// The pair, if the two may be merged and save more than those found so far; else what was found. Blocks between two are looked for from a
-/// place on first.
+/// The pair, if the two may be merged and save more than those found so far; else what was found.
 fn better_pair(
     keys: &[usize],
-    from: usize,
     fuses: &[bool],
     reaches: &[bool],
     saved: &[u64],
@@ -107,7 +106,6 @@ fn better_pair(
     left: usize,
     right: usize,
 ) -> Option<(usize, usize)>
-    requires from_in { from ≤ length keys.now }
     requires left_in { left < width }
     requires right_in { right < width }
     requires keys_in { All (λ k. k < width) keys.now }
@@ -119,8 +117,7 @@ fn better_pair(
     ensures below { IsTrue (found_below width result) }
 {
     if saves_more(saved, width, found, left, right)
-        && at(fuses, width, left, right)
-        && !some_lies_from(keys, from, reaches, width, left, right)
+        && may_merge(keys, fuses, reaches, width, left, right)
     {
         Some((left, right))
     } else {
@@ -128,32 +125,29 @@ fn better_pair(
     }
 }
 
-/// The best of the pairs of one block with those from a place on, after what was found before.
+/// The best of the pairs of one block with those from a place on.
 fn best_in_row(
     keys: &[usize],
     fuses: &[bool],
     reaches: &[bool],
     saved: &[u64],
     width: usize,
-    before: Option<(usize, usize)>,
     left: usize,
     from: usize,
 ) -> Option<(usize, usize)>
     requires left_in { left < width }
     requires from_in { from ≤ length keys.now }
     requires keys_in { All (λ k. k < width) keys.now }
-    requires found_in { IsTrue (found_below width before) }
     requires fuses_size { length fuses.now ≡ width * width }
     requires reaches_size { length reaches.now ≡ width * width }
     requires saved_size { length saved.now ≡ width * width }
-    ensures best { result ≡ best_in_row fuses.now reaches.now saved.now width keys.now before left (drop from keys.now) }
+    ensures best { result ≡ best_in_row fuses.now reaches.now saved.now width keys.now None left (drop from keys.now) }
     ensures below { IsTrue (found_below width result) }
 {
-    let mut found = before;
+    let mut found = None;
     for place in from..keys.len() {
         found = better_pair(
             keys,
-            from,
             fuses,
             reaches,
             saved,
@@ -166,32 +160,120 @@ fn best_in_row(
     found
 }
 
+/// Whether a pair of a row may save more than the one found so far, told the row's bound.
+fn may_beat(
+    saved: &[u64],
+    width: usize,
+    found: Option<(usize, usize)>,
+    bound: Option<u64>,
+) -> bool
+    requires found_in { IsTrue (found_below width found) }
+    requires size { length saved.now ≡ width * width }
+    ensures { result ≡ may_beat (amount saved.now width) found bound }
+{
+    match (bound, found) {
+        (None, _) => false,
+        (Some(_), None) => true,
+        (Some(most), Some((a, b))) => amount_at(saved, width, a, b) < most,
+    }
+}
+
+/// What a pair saves, if there is one.
+fn saving_of(saved: &[u64], width: usize, found: Option<(usize, usize)>) -> Option<u64>
+    requires found_in { IsTrue (found_below width found) }
+    requires size { length saved.now ≡ width * width }
+    ensures { result ≡ option_map (λ p. amount saved.now width p.0 p.1) found }
+{
+    match found {
+        None => None,
+        Some((a, b)) => Some(amount_at(saved, width, a, b)),
+    }
+}
+
+/// Of two pairs the one that saves more, the first where both save the same.
+fn better(
+    saved: &[u64],
+    width: usize,
+    before: Option<(usize, usize)>,
+    found: Option<(usize, usize)>,
+) -> Option<(usize, usize)>
+    requires before_in { IsTrue (found_below width before) }
+    requires found_in { IsTrue (found_below width found) }
+    requires size { length saved.now ≡ width * width }
+    ensures best { result ≡ better (λ p. amount saved.now width p.0 p.1) before found }
+    ensures below { IsTrue (found_below width result) }
+{
+    match found {
+        None => before,
+        Some((left, right)) => {
+            if saves_more(saved, width, before, left, right) {
+                return found;
+            }
+            before
+        }
+    }
+}
+
+/// The best of the pairs of one block with those behind it, after what was found before. They are looked at where the row's bound says that
+/// one may be better, and the bound is then what the best of them saves.
+fn better_in_row(
+    keys: &[usize],
+    fuses: &[bool],
+    reaches: &[bool],
+    saved: &[u64],
+    bounds: &mut [Option<u64>],
+    width: usize,
+    before: Option<(usize, usize)>,
+    place: usize,
+) -> Option<(usize, usize)>
+    requires place_in { place < length keys.now }
+    requires keys_in { All (λ k. k < width) keys.now }
+    requires rising { IsTrue (all_pairs nat_lt keys.now) }
+    requires before_in { IsTrue (found_below width before) }
+    requires fuses_size { length fuses.now ≡ width * width }
+    requires reaches_size { length reaches.now ≡ width * width }
+    requires saved_size { length saved.now ≡ width * width }
+    requires bounds_size { length bounds.old ≡ width }
+    requires bounded { Bounded fuses.now reaches.now saved.now width bounds.old keys.now }
+    ensures best { result ≡ best_in_row fuses.now reaches.now saved.now width keys.now before (get_or keys.now place 0) (drop (place + 1) keys.now) }
+    ensures below { IsTrue (found_below width result) }
+    ensures bounds_size { length bounds.new ≡ width }
+    ensures bounded { Bounded fuses.now reaches.now saved.now width bounds.new keys.now }
+{
+    let left = keys[place];
+    if !may_beat(saved, width, before, bounds[left]) {
+        return before;
+    }
+    let best = best_in_row(keys, fuses, reaches, saved, width, left, place + 1);
+    bounds[left] = saving_of(saved, width, best);
+    better(saved, width, before, best)
+}
+
 /// The pair that is merged next.
 pub(crate) fn next_pair(
     keys: &[usize],
     fuses: &[bool],
     reaches: &[bool],
     saved: &[u64],
+    bounds: &mut [Option<u64>],
     width: usize,
 ) -> Option<(usize, usize)>
     requires keys_in { All (λ k. k < width) keys.now }
+    requires rising { IsTrue (all_pairs nat_lt keys.now) }
     requires fuses_size { length fuses.now ≡ width * width }
     requires reaches_size { length reaches.now ≡ width * width }
     requires saved_size { length saved.now ≡ width * width }
+    requires bounds_size { length bounds.old ≡ width }
+    requires bounded { Bounded fuses.now reaches.now saved.now width bounds.old keys.now }
     ensures best { result ≡ next_pair (flag fuses.now width) (flag reaches.now width) (amount saved.now width) keys.now }
     ensures below { IsTrue (found_below width result) }
+    ensures bounds_size { length bounds.new ≡ width }
+    ensures bounded { Bounded fuses.now reaches.now saved.now width bounds.new keys.now }
 {
     let mut found = None;
     for place in 0..keys.len() {
-        found = best_in_row(
-            keys,
-            fuses,
-            reaches,
-            saved,
-            width,
-            found,
-            keys[place],
-            place + 1,
+        found = better_in_row(
+            keys, fuses, reaches, saved, bounds, width, found, place,
         );
     }
     found

@@ -10,6 +10,7 @@
 mod choice;
 mod merging;
 mod plan;
+mod pricing;
 mod rows;
 mod start;
 mod tables;

@@ -9,7 +9,8 @@ ghost use Rattle.arr_greedy.specs.Standing.{ArePrinted, IsPrinted, blocks_of, ro
 use crate::NoMemory;
 use crate::merging::{Block, merge_all, no_block};
 use crate::start::fill_rows;
-use crate::tables::{dep_table, fuse_table, saved_table};
+use crate::pricing::price_all;
+use crate::tables::{dep_table, fuse_table};
 use arr_cost::Costs;
 use arr_deps::Graph;
 use arr_heur::ordered;
@@ -87,8 +88,19 @@ fn greedy_blocks(alloc: Global, graph: &Graph, costs: &Costs) -> Result<Vec<Vec<
     let mut reaches = vec![in alloc; false; width * width]?;
     fill_rows(deps.as_slice(), reaches.as_mut_slice(), width);
     let mut blocks = single_blocks(alloc, costs, count)?;
-    let mut saved = saved_table(alloc, costs, blocks.as_slice(), width)?;
     let mut keys = all_numbers(alloc, count)?;
+    let mut saved = vec![in alloc; 0; width * width]?;
+    let mut bounds = vec![in alloc; None; width]?;
+    price_all(
+        costs,
+        blocks.as_slice(),
+        keys.as_slice(),
+        fuses.as_slice(),
+        reaches.as_slice(),
+        saved.as_mut_slice(),
+        bounds.as_mut_slice(),
+        width,
+    );
     merge_all(
         alloc,
         costs,
@@ -97,6 +109,7 @@ fn greedy_blocks(alloc: Global, graph: &Graph, costs: &Costs) -> Result<Vec<Vec<
         fuses.as_mut_slice(),
         reaches.as_mut_slice(),
         saved.as_mut_slice(),
+        bounds.as_mut_slice(),
         width,
         count,
     )?;

@@ -5,7 +5,7 @@ use Rattle.arr_heur.specs.Planners.{saving}
 use Rattle.arr_greedy.specs.declared.merging.Block.{Block}
 use Rattle.arr_greedy.proofs.KeyedBlocks.{block_live, saving_is}
 use Rattle.arr_greedy.proofs.Printed.{numbers_in, row_is}
-use Rattle.arr_greedy.proofs.merging.pair_saving.Goals as goal
+use Rattle.arr_greedy.proofs.pricing.pair_saving.Goals as goal
 
 pub returns : goal.returns
 returns c =
