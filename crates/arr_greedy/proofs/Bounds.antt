@@ -1,10 +1,10 @@
 -- Which rows of pairs need no look, by their bounds.
-use Rattle.std.proofs.Common.{◌≡◌, ◌⊎◌, ℕ, zero, suc, ◌+◌, ◌≤◌, ◌<◌, List, [], ◌∷◌, ◌++◌, Bool, true, false, cond, not, length, drop, get_or, set, inl, inr, Option, Some, None, refl, ap, sym, subst, ◌∙◌, arith}
+use Rattle.std.proofs.Common.{◌≡◌, ◌⊎◌, ℕ, zero, suc, ◌+◌, ◌-◌, ◌≤◌, ◌<◌, List, [], ◌∷◌, ◌++◌, Bool, true, false, cond, not, length, drop, get_or, set, inl, inr, Option, Some, None, refl, ap, sym, subst, ◌∙◌, arith}
 use Rattle.std.specs.Prelude.{nat_lt}
 use Rattle.std.specs.List.{All, filter}
 use Rattle.std.specs.Option.{option_map}
 use Rattle.std.proofs.lemmas.Bool.{false≢true, cases_eq, le-ltb, ltb-false, ltb-true}
-use Rattle.std.proofs.lemmas.List.{at_drop_more, get_or-set_same, get_or-set_other}
+use Rattle.std.proofs.lemmas.List.{at_drop_more, get_or-drop, get_or-set_other, get_or-set_same, length-drop}
 use Rattle.arr_ops.specs.Formed.{all_pairs}
 use Rattle.arr_ops.specs.Order.{In}
 use Rattle.arr_ops.proofs.Members.{all_in, filter_in, in_append, in_filter}
@@ -49,7 +49,7 @@ both_in (k ∷ ks) p i =
 abbrev pub Rising : List ℕ → Type 0
 Rising keys = Pairs (λ a b. nat_lt a b ≡ true) keys
 
-at_in : (keys : List ℕ) (place : ℕ) → place < length keys → In (get_or keys place 0) keys
+pub at_in : (keys : List ℕ) (place : ℕ) → place < length keys → In (get_or keys place 0) keys
 at_in [] place l = absurd (omega arith)
 at_in (k ∷ ks) zero l = inl refl
 at_in (k ∷ ks) (suc place) l = inr (at_in ks place (omega arith))
@@ -97,13 +97,41 @@ in_index [] x i = absurd i
 in_index (y ∷ ys) x (inl e) = (0, omega arith, sym e)
 in_index (y ∷ ys) x (inr j) = let r = in_index ys x j in let l : r.0 < length ys = r.1 in (suc r.0, omega arith, r.2)
 
+pub key_is : (P : ℕ → Type 0) (keys : List ℕ) → All P keys → (x : ℕ) → In x keys → P x
+key_is P keys h x i = let r = in_index keys x i in subst P r.2 (h r.0 0 r.1)
+
 pub in_below : (keys : List ℕ) (w : ℕ) → All (λ k. k < w) keys → (x : ℕ) → In x keys → x < w
-in_below keys w h x i = let r = in_index keys x i in subst (λ k. k < w) r.2 (h r.0 0 r.1)
+in_below keys w h x i = key_is (λ k. k < w) keys h x i
 
 pub pairs_next : (keys : List ℕ) (place : ℕ) → place < length keys → (p : ℕ × ℕ) → In p (pairs (drop place keys))
     → In p (row_pairs (get_or keys place 0) (drop (place + 1) keys)) ⊎ In p (pairs (drop (place + 1) keys))
 pairs_next keys place l p i =
     in_append (row_pairs (get_or keys place 0) (drop (place + 1) keys)) (pairs (drop (place + 1) keys)) p (subst (λ ks. In p (pairs ks)) (at_drop_more (λ ks. ks) keys place 0 l) i)
+
+-- where the second of a row's pair stands
+pub record RowPlace (keys : List ℕ) (place : ℕ) (p : ℕ × ℕ) : Type 0 where
+  pub at : ℕ
+  pub behind : place + 1 ≤ at
+  pub inside : at < length keys
+  pub first : p.0 ≡ get_or keys place 0
+  pub second : p.1 ≡ get_or keys at 0
+
+pub row_place : (keys : List ℕ) (place : ℕ) (p : ℕ × ℕ) → In p (row_pairs (get_or keys place 0) (drop (place + 1) keys)) → RowPlace keys place p
+row_place keys place p i =
+    let r = in_map (λ y. pair (get_or keys place 0) y) (drop (place + 1) keys) p i in
+    let n = in_index (drop (place + 1) keys) r.0 r.1 in
+    let l : n.0 < length (drop (place + 1) keys) = n.1 in
+    let long : length (drop (place + 1) keys) ≡ length keys - (place + 1) = length-drop (place + 1) keys in
+    record {
+      at = place + 1 + n.0;
+      behind = omega arith;
+      inside = omega arith;
+      first = ap (λ (q : ℕ × ℕ). q.0) r.2;
+      second = ap (λ (q : ℕ × ℕ). q.1) r.2 ∙ sym n.2 ∙ get_or-drop (place + 1) keys n.0 0;
+    }
+  where
+    pair : ℕ → ℕ → ℕ × ℕ
+    pair x y = (x, y)
 
 -- ---- the heaviest of a row is its bound
 

@@ -1,5 +1,5 @@
 -- Greedy's blocks at the beginning and at the end.
-use Rattle.std.proofs.Common.{◌≡◌, ℕ, zero, suc, ◌+◌, ◌<◌, ◌≤◌, List, [], ◌∷◌, ◌++◌, Bool, true, false, cond, not, ◌&&◌, ◌||◌, Some, None, length, map, get_or, replicate, inl, inr, refl, ap, ap₂, sym, ◌∙◌, arith}
+use Rattle.std.proofs.Common.{◌≡◌, ℕ, zero, suc, ◌+◌, ◌<◌, ◌≤◌, List, [], ◌∷◌, ◌++◌, Bool, true, false, cond, not, ◌&&◌, ◌||◌, Some, None, length, map, get_or, replicate, inl, inr, refl, ap, ap₂, sym, subst, ◌∙◌, arith}
 use Rattle.std.specs.Prelude.{nat_eq, nat_lt}
 use Rattle.std.specs.List.{All, filter, list_all, range_with_len}
 use Rattle.std.proofs.lemmas.Bool.{lt-ltb, eq-eqb, false≢true}
@@ -15,6 +15,15 @@ use Rattle.arr_heur.specs.Planners.{greedy_blocks, greedy_within, heaviest, merg
 use Rattle.arr_heur.proofs.Merge.{in_map}
 use Rattle.arr_heur.proofs.Merged.{greedy_blocks_good, in_singles}
 use Rattle.arr_heur.proofs.Stretches.{range_more}
+use Rattle.arr_greedy.specs.declared.merging.Block.{Block}
+use Rattle.arr_greedy.specs.Bits.{AreBits, bit, columns}
+use Rattle.arr_greedy.specs.Fast.{Told, by_step, flag}
+use Rattle.arr_greedy.specs.Standing.{blocks_of, rows_of}
+use Rattle.arr_greedy.specs.Start.{deps_at, fuses_at}
+use Rattle.arr_greedy.specs.Tables.{AreFlags, TellsWays}
+use Rattle.arr_greedy.proofs.Begun.{started}
+use Rattle.arr_greedy.proofs.Between.{ways_start}
+use Rattle.arr_greedy.proofs.Opening.{keys_start, told_start}
 use Rattle.arr_greedy.specs.Blocks.{live, row_at, Keyed}
 use Rattle.arr_greedy.proofs.KeyedBlocks.{numbers_are}
 
@@ -143,3 +152,23 @@ begun_long n = from 1 n
 
     from : (a n : ℕ) → suc (length (map single (range_with_len a n))) ≡ n + 1
     from a n = ap suc (long a n) ∙ (let e : suc n ≡ n + 1 = omega arith in e)
+
+pub begun_blocks : (list : List Op) (n : ℕ) (blocks : List Block) → n ≡ length list → rows_of blocks ≡ [] ∷ map single (range_with_len 1 n) → blocks_of blocks ≡ singles (numbered list)
+begun_blocks list n blocks count e = ap live e ∙ ap (λ n. live ([] ∷ map single (range_with_len 1 n))) count ∙ begun_live list
+
+pub begun_keys : (list : List Op) (n : ℕ) (blocks : List Block) (keys : List ℕ) → n ≡ length list → rows_of blocks ≡ [] ∷ map single (range_with_len 1 n) → keys ≡ range_with_len 1 n → keys ≡ map least_of (blocks_of blocks)
+begun_keys list n blocks keys count e k = k ∙ ap (range_with_len 1) count ∙ sym (numbers_are list) ∙ keys_start (numbered list) ∙ ap (map least_of) (sym (begun_blocks list n blocks count e))
+
+-- what the tables tell at the beginning
+pub begun_told : (list : List Op) (w n : ℕ) (blocks : List Block) (fuses deps : List Bool) (reaches : List ℕ) → n ≡ length list → w ≡ n + 1 → rows_of blocks ≡ [] ∷ map single (range_with_len 1 n)
+    → AreFlags fuses w (fuses_at list) → AreFlags deps w (deps_at list) → AreBits reaches w (by_step (flag deps w) (bit reaches w) w) → Told list (blocks_of blocks) (flag fuses w) (bit reaches w)
+begun_told list w n blocks fuses deps reaches count wide e f d r =
+    subst (λ bs. Told list bs (flag fuses w) (bit reaches w)) (sym (begun_blocks list n blocks count e))
+    (told_start list (flag fuses w) (bit reaches w) (started list w (flag fuses w) (flag deps w) (bit reaches w) (omega arith) f d (λ x y xm ym. r x y xm (omega arith))))
+
+pub begun_ways : (list : List Op) (w n : ℕ) (blocks : List Block) (fuses deps : List Bool) (keys reaches reached : List ℕ) → n ≡ length list → w ≡ n + 1 → rows_of blocks ≡ [] ∷ map single (range_with_len 1 n)
+    → AreFlags fuses w (fuses_at list) → AreFlags deps w (deps_at list) → AreBits reaches w (by_step (flag deps w) (bit reaches w) w)
+    → keys ≡ range_with_len 1 n → All (λ k. k < w) keys
+    → ((z : ℕ) → z < columns w → bit reached w 0 z ≡ has keys z) → ((x y : ℕ) → x < w → 0 < y → y < w → bit reached w y x ≡ bit reaches w x y) → TellsWays keys reaches reached w
+begun_ways list w n blocks fuses deps keys reaches reached count wide e f d r k inside live turned =
+    ways_start list (blocks_of blocks) (flag fuses w) keys reaches reached w (begun_told list w n blocks fuses deps reaches count wide e f d r) (begun_keys list n blocks keys count e k) inside live turned

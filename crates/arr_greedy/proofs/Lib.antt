@@ -4,7 +4,9 @@ mod Fast
 mod Scan
 mod Bounds
 mod Cells
+mod Bits
 mod Turns
+mod Between
 mod Carried
 mod Opening
 mod Filling

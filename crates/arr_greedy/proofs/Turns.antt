@@ -4,8 +4,8 @@ use Rattle.std.proofs.lemmas.Bool.{eqb-true, lt-ltb, ltb-true}
 use Rattle.std.specs.Prelude.{◌==◌, nat_lt}
 use Rattle.std.specs.List.{filter, All}
 use Rattle.arr_ops.specs.declared.op.Op.{Op}
-use Rattle.arr_ops.specs.Plans.{numbered}
-use Rattle.arr_ops.specs.Order.{least_of, same_block, is_orderable}
+use Rattle.arr_ops.specs.Plans.{not_empty, numbered}
+use Rattle.arr_ops.specs.Order.{leads, least_of, same_block, is_orderable}
 use Rattle.arr_ops.specs.Formed.{all_pairs}
 use Rattle.arr_ops.proofs.Pairs.{Pairs, Pairs_weaker}
 use Rattle.arr_ops.proofs.Tests.{pairs_of, test_all}
@@ -13,9 +13,11 @@ use Rattle.arr_heur.specs.Planners.{union, merge, greedy_within}
 use Rattle.arr_ops.specs.Order.{In}
 use Rattle.arr_greedy.specs.Ways.{reach_after}
 use Rattle.arr_greedy.specs.Fast.{block_at, fuses_after, next_pair, Told}
-use Rattle.arr_ops.proofs.Members.{all_in, in_all, Apart, Distinct}
-use Rattle.arr_ops.proofs.Legality.{distinct_of}
-use Rattle.arr_greedy.proofs.BlockMerges.{joined, after_in, parts_of}
+use Rattle.arr_ops.proofs.Members.{all_in, has_least, in_all, Apart, Distinct}
+use Rattle.arr_ops.proofs.Legality.{IsPartition, distinct_of}
+use Rattle.std.proofs.lemmas.List.Elements.{All-from_recursion}
+use Rattle.arr_greedy.proofs.Ways.{way_rank}
+use Rattle.arr_greedy.proofs.BlockMerges.{Among, joined, after_in, orderable_ranked, parts_of}
 use Rattle.arr_heur.proofs.Merge.{in_map, merge_partition}
 use Rattle.arr_greedy.proofs.Bounds.{in_below}
 use Rattle.arr_greedy.proofs.Fast.{Kept, Saves, block_found, kept_after, map_in, turn}
@@ -59,11 +61,31 @@ kept_same list blocks f g r s k e h =
       reached = λ a b i j. let t = k.reached a b i j in (λ q. t.0 (sym (h a b i j) ∙ q), λ p. h a b i j ∙ t.1 p);
     }
 
+positive : (list : List Op) (blocks : List (List ℕ)) → IsPartition (length list) blocks → (b : List ℕ) → In b blocks → 0 < least_of b
+positive list blocks p b i = (p.within b i (least_of b) (has_least b (all_in (λ b. not_empty b ≡ true) blocks p.some b i))).0
+
+pub keys_positive : (list : List Op) (blocks : List (List ℕ)) → IsPartition (length list) blocks → All (λ k. 0 < k) (map least_of blocks)
+keys_positive list blocks p =
+    All-from_recursion (λ k. 0 < k) (map least_of blocks) (in_all (λ k. 0 < k) (map least_of blocks) (λ k i. let r = in_map least_of blocks k i in subst (λ n. 0 < n) (sym r.2) (positive list blocks p r.0 r.1)))
+
+-- none reaches itself
+pub no_loop : (list : List Op) (blocks : List (List ℕ)) (f r : ℕ → ℕ → Bool) → Kept list blocks f r → (b : List ℕ) → In b blocks → r (least_of b) (least_of b) ≡ false
+no_loop list blocks f r k b i =
+    true_not (r (least_of b) (least_of b)) (λ e.
+    let ranks = orderable_ranked list blocks k.partition k.orderable in
+    let way = (k.reached b b i i).0 e in
+    let l : ranks.0 b < ranks.0 b = way_rank least_of (leads (numbered list)) (Among blocks) ranks.0 ranks.1 b way.0 b way.1 in
+    absurd (omega arith))
+  where
+    true_not : (t : Bool) → (t ≡ true → ⊥) → t ≡ false
+    true_not true h = absurd (h refl)
+    true_not false h = refl
+
 pub turn_kept : (list : List Op) (blocks : List (List ℕ)) (fuses reaches : ℕ → ℕ → Bool) → Kept list blocks fuses reaches → (w : ℕ) → ((b : List ℕ) → In b blocks → least_of b < w)
     → (a b : List ℕ) → In a blocks → In b blocks → least_of a < least_of b → is_orderable list (merge (numbered list) a b blocks) ≡ true
     → (f r : ℕ → ℕ → Bool)
     → ((p q : ℕ) → p < w → q < w → f p q ≡ fuses_after fuses (least_of a) (least_of b) p q)
-    → ((p q : ℕ) → p < w → q < w → p ≢ least_of b → r p q ≡ reach_after (λ k. k) reaches (least_of a) (least_of b) p q)
+    → ((p q : ℕ) → 0 < p → p < w → q < w → p ≢ least_of b → r p q ≡ reach_after (λ k. k) reaches (least_of a) (least_of b) p q)
     → Kept list (merge (numbered list) a b blocks) f r
 turn_kept list blocks fuses reaches k w low a b m n l e f r hf hr =
     let xs : List (ℕ × Op) = numbered list in
@@ -71,15 +93,19 @@ turn_kept list blocks fuses reaches k w low a b m n l e f r hf hr =
     let same : least_of (union xs a b) ≡ least_of a = (joined list blocks a b k.partition m n l).same_key in
     let d : Distinct blocks = distinct_of (length list) blocks k.partition in
     let after : List (List ℕ) = merge xs a b blocks in
-    let bound : (c : List ℕ) → In c after → (least_of c < w) × (least_of c ≡ least_of b → ⊥) = λ c i.
-    elim (after_in xs blocks a b d m n apart c i) as (λ _. (least_of c < w) × (least_of c ≡ least_of b → ⊥)) [
-      | inl g ↦ let h : least_of c ≡ least_of a = ap least_of g ∙ same in let s : least_of a < w = low a m in (omega arith, λ q. absurd (omega arith))
-      | inr s ↦ (low c s.0, s.2)
+    let bound : (c : List ℕ) → In c after → (least_of c < w) × (0 < least_of c) × (least_of c ≡ least_of b → ⊥) = λ c i.
+    elim (after_in xs blocks a b d m n apart c i) as (λ _. (least_of c < w) × (0 < least_of c) × (least_of c ≡ least_of b → ⊥)) [
+      | inl g ↦
+          let h : least_of c ≡ least_of a = ap least_of g ∙ same in
+          let s : least_of a < w = low a m in
+          let u : 0 < least_of a = positive list blocks k.partition a m in
+          (omega arith, omega arith, λ q. absurd (omega arith))
+      | inr s ↦ (low c s.0, positive list blocks k.partition c s.0, s.2)
     ] in
     kept_same list after (fuses_after fuses (least_of a) (least_of b)) f (reach_after (λ k. k) reaches (least_of a) (least_of b)) r
     (kept_after list blocks fuses reaches k a b m n l e)
     (λ c g i h. hf (least_of c) (least_of g) (bound c i).0 (bound g h).0)
-    (λ c g i h. hr (least_of c) (least_of g) (bound c i).0 (bound g h).0 (bound c i).1)
+    (λ c g i h. hr (least_of c) (least_of g) (bound c i).1 (bound c i).0 (bound g h).0 (bound c i).2)
 
 pub to_kept : (list : List Op) (blocks : List (List ℕ)) (f r : ℕ → ℕ → Bool) → Told list blocks f r → Kept list blocks f r
 to_kept list blocks f r t =
@@ -129,7 +155,7 @@ pub turned : (list : List Op) (blocks after : List (List ℕ)) (F R : ℕ → �
     → after ≡ merge (numbered list) (block_at x blocks) (block_at y blocks) blocks
     → after_keys ≡ filter (λ k. not (k == y)) keys
     → ((p q : ℕ) → p < w → q < w → f p q ≡ fuses_after F x y p q)
-    → ((p q : ℕ) → p < w → q < w → p ≢ y → r p q ≡ reach_after (λ k. k) R x y p q)
+    → ((p q : ℕ) → 0 < p → p < w → q < w → p ≢ y → r p q ≡ reach_after (λ k. k) R x y p q)
     → Turned list blocks after f r keys after_keys x y
 turned list blocks after F R V keys after_keys w x y f r k saves ek inside e eb eks hf hr =
     let xs : List (ℕ × Op) = numbered list in
@@ -144,7 +170,7 @@ turned list blocks after F R V keys after_keys w x y f r k saves ek inside e eb 
     let kept : Kept list (merge xs a b blocks) f r =
     turn_kept list blocks F R k w low a b t.in_left t.in_right t.before t.orderable f r
     (λ p q pm qm. hf p q pm qm ∙ ap₂ (λ s u. fuses_after F s u p q) (sym t.key_left) (sym t.key_right))
-    (λ p q pm qm ne. hr p q pm qm (λ z. ne (z ∙ sym t.key_right)) ∙ ap₂ (λ s u. reach_after (λ k. k) R s u p q) (sym t.key_left) (sym t.key_right)) in
+    (λ p q pos pm qm ne. hr p q pos pm qm (λ z. ne (z ∙ sym t.key_right)) ∙ ap₂ (λ s u. reach_after (λ k. k) R s u p q) (sym t.key_left) (sym t.key_right)) in
     record {
       kept = subst (λ bs. Kept list bs f r) (sym merged) kept;
       keys_are = named ∙ ap (map least_of) (sym merged);

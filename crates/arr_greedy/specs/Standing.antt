@@ -1,5 +1,5 @@
 -- The blocks that the code keeps, by their places.
-use Rattle.std.specs.Prelude.{ℕ, ◌≡◌, ◌<◌, Bool, List, None, Option, get_or, length, map, max, min, true}
+use Rattle.std.specs.Prelude.{ℕ, ◌≡◌, ◌<◌, ◌≤◌, Bool, List, None, Option, get_or, length, map, max, min, true}
 use Rattle.std.specs.List.{All}
 use Rattle.arr_ops.specs.declared.op.Op.{Op}
 use Rattle.arr_ops.specs.Plans.{numbered}
@@ -7,6 +7,7 @@ use Rattle.arr_cost.specs.Footprints.{IsFootprint}
 use Rattle.arr_ops.specs.Order.{In}
 use Rattle.arr_heur.specs.Planners.{merge, pairs, saving, union}
 use Rattle.arr_greedy.specs.declared.merging.Block.{Block}
+use Rattle.arr_greedy.specs.Bits.{bit}
 use Rattle.arr_greedy.specs.Blocks.{live, row_at}
 use Rattle.arr_greedy.specs.Fast.{amount, block_at, covers, flag, may_merge}
 
@@ -38,21 +39,21 @@ abbrev pub saving_at : List Op → List Block → ℕ → ℕ → ℕ
 saving_at list blocks a b = saving list (block_at a (blocks_of blocks), block_at b (blocks_of blocks))
 
 -- if two may be merged, the table has what they save, and the bound of the row is no less
-abbrev pub IsPriced : List Op → List Block → List Bool → List Bool → List ℕ → List ℕ → List (Option ℕ) → ℕ → ℕ → ℕ → Type 0
+abbrev pub IsPriced : List Op → List Block → List Bool → List ℕ → List ℕ → List ℕ → List (Option ℕ) → ℕ → ℕ → ℕ → Type 0
 IsPriced list blocks fuses reaches keys saved bounds w x y =
-    may_merge (flag fuses w) (flag reaches w) keys (x, y) ≡ true
+    may_merge (flag fuses w) (bit reaches w) keys (x, y) ≡ true
     → (amount saved w x y ≡ saving_at list blocks x y) × (covers (get_or bounds x None) (amount saved w x y) ≡ true)
 
--- so for each pair of a key and one of others, the lesser first
-abbrev pub ArePriced : List Op → List Block → List Bool → List Bool → List ℕ → List ℕ → List (Option ℕ) → ℕ → ℕ → List ℕ → Type 0
-ArePriced list blocks fuses reaches keys saved bounds w key others =
-    (i : ℕ) → i < length others → IsPriced list blocks fuses reaches keys saved bounds w (min key (get_or others i 0)) (max key (get_or others i 0))
+-- so for each pair of a key and one of the keys from a place on, the lesser first
+abbrev pub ArePriced : List Op → List Block → List Bool → List ℕ → List ℕ → List ℕ → List (Option ℕ) → ℕ → ℕ → ℕ → Type 0
+ArePriced list blocks fuses reaches keys saved bounds w key from =
+    (i : ℕ) → from ≤ i → i < length keys → IsPriced list blocks fuses reaches keys saved bounds w (min key (get_or keys i 0)) (max key (get_or keys i 0))
 
 -- so for each two keys
-abbrev pub AllPriced : List Op → List Block → List Bool → List Bool → List ℕ → List ℕ → List (Option ℕ) → ℕ → Type 0
+abbrev pub AllPriced : List Op → List Block → List Bool → List ℕ → List ℕ → List ℕ → List (Option ℕ) → ℕ → Type 0
 AllPriced list blocks fuses reaches keys saved bounds w = (p : ℕ × ℕ) → In p (pairs keys) → IsPriced list blocks fuses reaches keys saved bounds w p.0 p.1
 
 -- what is so with some savings and bounds is so with others
-abbrev pub PricesStay : List Op → List Block → List Bool → List Bool → List ℕ → List ℕ → List (Option ℕ) → List ℕ → List (Option ℕ) → ℕ → Type 0
+abbrev pub PricesStay : List Op → List Block → List Bool → List ℕ → List ℕ → List ℕ → List (Option ℕ) → List ℕ → List (Option ℕ) → ℕ → Type 0
 PricesStay list blocks fuses reaches keys saved bounds saved_after bounds_after w =
     (x y : ℕ) → x < w → y < w → IsPriced list blocks fuses reaches keys saved bounds w x y → IsPriced list blocks fuses reaches keys saved_after bounds_after w x y

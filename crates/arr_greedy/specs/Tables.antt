@@ -1,10 +1,11 @@
 -- What a table says, row by row.
-use Rattle.std.specs.Prelude.{ℕ, ◌≡◌, ◌<◌, ◌≤◌, ◌≢◌, ◌==◌, ◌&&◌, ◌||◌, List, Bool, Option, None, Some, cond, false, get_or, not, true}
+use Rattle.std.specs.Prelude.{ℕ, ◌≡◌, ◌<◌, ◌≤◌, ◌≢◌, ◌==◌, ◌&&◌, ◌||◌, List, Bool, Option, None, Some, cond, false, get_or, nat_lt, not, true}
 use Rattle.arr_view.specs.Views.{has}
 use Rattle.arr_ops.specs.Order.{In}
 use Rattle.arr_heur.specs.Planners.{pairs}
 use Rattle.arr_greedy.specs.Fast.{amount, best_after, covers, flag, may_merge, row_pairs, saves_more}
-use Rattle.arr_greedy.specs.Ways.{gains, reach_after}
+use Rattle.arr_greedy.specs.Bits.{bit, columns}
+use Rattle.arr_greedy.specs.Ways.{reach_after}
 
 -- a table of width w has at each row and column what a function gives
 abbrev pub AreFlags : List Bool → ℕ → (ℕ → ℕ → Bool) → Type 0
@@ -25,9 +26,13 @@ with_row table row other x y = cond (x == row) (other x y) (table x y)
 abbrev pub with_both : (ℕ → ℕ → Bool) → ℕ → ℕ → ℕ → ℕ → Bool
 with_both table a b x y = cond (y == a && not (x == a)) (table x a && table x b) (table x y)
 
--- one row, but that of a and that of b, as it reaches once a and b are one
-abbrev pub with_reach : (ℕ → ℕ → Bool) → ℕ → ℕ → ℕ → ℕ → ℕ → Bool
-with_reach table a b row x y = cond (x == row && not (row == a || row == b)) (reach_after (λ k. k) table a b x y) (table x y)
+-- one row, but that of a and that of b: if it has a or b, with what row a has
+abbrev pub with_gained : (ℕ → ℕ → Bool) → ℕ → ℕ → ℕ → ℕ → ℕ → Bool
+with_gained table a b row x y = cond ((x == row && not (row == a || row == b)) && (table row a || table row b)) (table row y || table a y) (table x y)
+
+-- some columns, but in row 0, as another table has them as rows
+abbrev pub with_turned : (ℕ → ℕ → Bool) → (ℕ → ℕ → Bool) → (ℕ → Bool) → ℕ → ℕ → Bool
+with_turned table turned taken y x = cond (taken x && nat_lt 0 y) (table x y) (turned y x)
 
 -- what a row reaches once it leads another, if it does
 abbrev pub with_step : (ℕ → ℕ → Bool) → ℕ → ℕ → Bool → ℕ → Bool
@@ -37,23 +42,29 @@ with_step table row other leads y = table row y || (leads && (other == y || tabl
 abbrev pub AreForward : List Bool → ℕ → Type 0
 AreForward rows w = (x y : ℕ) → x < w → y < w → y ≤ x → flag rows w x y ≡ false
 
--- the columns that each row gains that reached a or b
-abbrev pub AreGained : List Bool → ℕ → ℕ → ℕ → List ℕ → Type 0
-AreGained rows w a b columns = (y : ℕ) → y < w → has columns y ≡ gains (flag rows w) a b y
+-- each row but that of b and row 0 has what it reaches once a and b are one
+abbrev pub ReachesAfter : List ℕ → List ℕ → ℕ → ℕ → ℕ → Type 0
+ReachesAfter old new w a b = (x y : ℕ) → 0 < x → x < w → y < w → x ≢ b → bit new w x y ≡ reach_after (λ k. k) (bit old w) a b x y
 
--- each row but that of b has what it reaches once a and b are one
-abbrev pub ReachesAfter : List Bool → List Bool → ℕ → ℕ → ℕ → Type 0
-ReachesAfter old new w a b = (x y : ℕ) → x < w → y < w → x ≢ b → flag new w x y ≡ reach_after (λ k. k) (flag old w) a b x y
+-- once b is part of a, no block reaches itself
+abbrev pub NoLoopsAfter : List ℕ → ℕ → List ℕ → ℕ → ℕ → Type 0
+NoLoopsAfter reaches w keys a b = (x : ℕ) → In x keys → x ≢ b → reach_after (λ k. k) (bit reaches w) a b x x ≡ false
+
+-- of the blocks that stand by their keys: which these are, what reaches each, and that none reaches itself
+pub record TellsWays (keys reaches reached : List ℕ) (w : ℕ) : Type 0 where
+  pub live : (z : ℕ) → z < columns w → bit reached w 0 z ≡ has keys z
+  pub turned : (x y : ℕ) → In x keys → In y keys → bit reached w y x ≡ bit reaches w x y
+  pub loopless : (x : ℕ) → In x keys → bit reaches w x x ≡ false
 
 -- a pair, if its two may be merged and save more than what was found; else what was found
-abbrev pub better_pair : List Bool → List Bool → List ℕ → ℕ → List ℕ → Option (ℕ × ℕ) → ℕ → ℕ → Option (ℕ × ℕ)
-better_pair fuses reaches saved w keys found x y = cond (may_merge (flag fuses w) (flag reaches w) keys (x, y) && saves_more (amount saved w) found x y) (Some (x, y)) found
+abbrev pub better_pair : List Bool → List ℕ → List ℕ → ℕ → List ℕ → Option (ℕ × ℕ) → ℕ → ℕ → Option (ℕ × ℕ)
+better_pair fuses reaches saved w keys found x y = cond (may_merge (flag fuses w) (bit reaches w) keys (x, y) && saves_more (amount saved w) found x y) (Some (x, y)) found
 
 -- the best pair of one with each of others, after what was found before
-abbrev pub best_in_row : List Bool → List Bool → List ℕ → ℕ → List ℕ → Option (ℕ × ℕ) → ℕ → List ℕ → Option (ℕ × ℕ)
-best_in_row fuses reaches saved w keys before x others = best_after (λ (p : ℕ × ℕ). amount saved w p.0 p.1) (may_merge (flag fuses w) (flag reaches w) keys) before (row_pairs x others)
+abbrev pub best_in_row : List Bool → List ℕ → List ℕ → ℕ → List ℕ → Option (ℕ × ℕ) → ℕ → List ℕ → Option (ℕ × ℕ)
+best_in_row fuses reaches saved w keys before x others = best_after (λ (p : ℕ × ℕ). amount saved w p.0 p.1) (may_merge (flag fuses w) (bit reaches w) keys) before (row_pairs x others)
 
 -- each pair of keys that may be merged saves no more than the bound of its row
-abbrev pub Bounded : List Bool → List Bool → List ℕ → ℕ → List (Option ℕ) → List ℕ → Type 0
+abbrev pub Bounded : List Bool → List ℕ → List ℕ → ℕ → List (Option ℕ) → List ℕ → Type 0
 Bounded fuses reaches saved w bounds keys =
-    (p : ℕ × ℕ) → In p (pairs keys) → may_merge (flag fuses w) (flag reaches w) keys p ≡ true → covers (get_or bounds p.0 None) (amount saved w p.0 p.1) ≡ true
+    (p : ℕ × ℕ) → In p (pairs keys) → may_merge (flag fuses w) (bit reaches w) keys p ≡ true → covers (get_or bounds p.0 None) (amount saved w p.0 p.1) ≡ true

@@ -1,11 +1,15 @@
 //! Which two blocks are merged next.
-ghost use Rattle.std.specs.Prelude.{◌≡◌, ◌<◌, ◌+◌, ◌*◌, length, IsTrue, None, drop, get_or, nat_lt, ◌≤◌};
-ghost use Rattle.std.specs.List.{All, list_any};
+ghost use Rattle.std.specs.Prelude.{◌≡◌, ◌<◌, ◌≤◌, ◌+◌, ◌*◌, ◌/◌, ◌%◌, ℕ, List, length, IsTrue, None, drop, get_or, nat_lt};
+ghost use Rattle.std.specs.List.{All};
 ghost use Rattle.std.specs.Option.{option_map};
 ghost use Rattle.arr_ops.specs.Formed.{all_pairs};
-ghost use Rattle.arr_greedy.specs.Fast.{amount, better, flag, found_below, may_beat, may_merge, next_pair, saves_more};
-ghost use Rattle.arr_greedy.specs.Ways.{lies_between};
-ghost use Rattle.arr_greedy.specs.Tables.{Bounded, best_in_row, better_pair};
+ghost use Rattle.arr_ops.specs.Order.{In};
+ghost use Rattle.arr_cost.specs.Footprints.{has_bit};
+ghost use Rattle.arr_greedy.specs.Bits.{bit, columns, stands_between, words};
+ghost use Rattle.arr_greedy.specs.Fast.{amount, any_below, better, flag, found_below, may_beat, may_merge, next_pair, saves_more};
+ghost use Rattle.arr_greedy.specs.Tables.{Bounded, TellsWays, best_in_row, better_pair};
+
+use crate::grid::words;
 
 /// The flag of a row and a column.
 pub(crate) fn at(rows: &[bool], width: usize, row: usize, column: usize) -> bool
@@ -27,29 +31,37 @@ fn amount_at(rows: &[u64], width: usize, row: usize, column: usize) -> u64
     rows[row * width + column]
 }
 
-/// Whether a block lies on a way between two others.
-fn lies(reaches: &[bool], width: usize, left: usize, right: usize, third: usize) -> bool
+/// Of a word of blocks those that stand on a way between two, told what each block reaches and what reaches it.
+fn between(
+    reaches: &[u64],
+    reached: &[u64],
+    width: usize,
+    left: usize,
+    right: usize,
+    index: usize,
+) -> u64
     requires left_in { left < width }
     requires right_in { right < width }
-    requires third_in { third < width }
-    requires size { length reaches.now ≡ width * width }
-    ensures { result ≡ lies_between (λ k. k) (flag reaches.now width) left right third }
+    requires index_in { index < words width }
+    requires reaches_size { length reaches.now ≡ width * words width }
+    requires reached_size { length reached.now ≡ width * words width }
+    ensures { (z : ℕ) → z / 64 ≡ index → has_bit result (z % 64) ≡ stands_between (bit reaches.now width) (bit reached.now width) left right z }
 {
-    !(third == left || third == right)
-        && ((at(reaches, width, left, third) && at(reaches, width, third, right))
-            || (at(reaches, width, right, third) && at(reaches, width, third, left)))
+    let first = left * words(width) + index;
+    let second = right * words(width) + index;
+    (reaches[first] & reached[second] | reaches[second] & reached[first]) & reached[index]
 }
 
-/// Whether a block of these lies on a way between two.
-fn some_lies(keys: &[usize], reaches: &[bool], width: usize, left: usize, right: usize) -> bool
+/// Whether some block stands on a way between two.
+fn some_stands(reaches: &[u64], reached: &[u64], width: usize, left: usize, right: usize) -> bool
     requires left_in { left < width }
     requires right_in { right < width }
-    requires keys_in { All (λ k. k < width) keys.now }
-    requires size { length reaches.now ≡ width * width }
-    ensures { result ≡ list_any (lies_between (λ k. k) (flag reaches.now width) left right) keys.now }
+    requires reaches_size { length reaches.now ≡ width * words width }
+    requires reached_size { length reached.now ≡ width * words width }
+    ensures { result ≡ any_below (stands_between (bit reaches.now width) (bit reached.now width) left right) (columns width) }
 {
-    for key in keys {
-        if lies(reaches, width, left, right, *key) {
+    for index in 0..words(width) {
+        if between(reaches, reached, width, left, right, index) != 0 {
             return true;
         }
     }
@@ -58,21 +70,21 @@ fn some_lies(keys: &[usize], reaches: &[bool], width: usize, left: usize, right:
 
 /// Whether two blocks may be merged.
 pub(crate) fn may_merge(
-    keys: &[usize],
     fuses: &[bool],
-    reaches: &[bool],
+    reaches: &[u64],
+    reached: &[u64],
     width: usize,
     left: usize,
     right: usize,
 ) -> bool
     requires left_in { left < width }
     requires right_in { right < width }
-    requires keys_in { All (λ k. k < width) keys.now }
     requires fuses_size { length fuses.now ≡ width * width }
-    requires reaches_size { length reaches.now ≡ width * width }
-    ensures { result ≡ may_merge (flag fuses.now width) (flag reaches.now width) keys.now (left, right) }
+    requires reaches_size { length reaches.now ≡ width * words width }
+    requires reached_size { length reached.now ≡ width * words width }
+    ensures { (keys : List ℕ) → All (λ k. k < width) keys → TellsWays keys reaches.now reached.now width → In left keys → In right keys → result ≡ may_merge (flag fuses.now width) (bit reaches.now width) keys (left, right) }
 {
-    at(fuses, width, left, right) && !some_lies(keys, reaches, width, left, right)
+    at(fuses, width, left, right) && !some_stands(reaches, reached, width, left, right)
 }
 
 /// Whether a pair saves more than the one found so far.
@@ -97,9 +109,9 @@ fn saves_more(
 
 /// The pair, if the two may be merged and save more than those found so far; else what was found.
 fn better_pair(
-    keys: &[usize],
     fuses: &[bool],
-    reaches: &[bool],
+    reaches: &[u64],
+    reached: &[u64],
     saved: &[u64],
     width: usize,
     found: Option<(usize, usize)>,
@@ -108,16 +120,16 @@ fn better_pair(
 ) -> Option<(usize, usize)>
     requires left_in { left < width }
     requires right_in { right < width }
-    requires keys_in { All (λ k. k < width) keys.now }
     requires found_in { IsTrue (found_below width found) }
     requires fuses_size { length fuses.now ≡ width * width }
-    requires reaches_size { length reaches.now ≡ width * width }
+    requires reaches_size { length reaches.now ≡ width * words width }
+    requires reached_size { length reached.now ≡ width * words width }
     requires saved_size { length saved.now ≡ width * width }
-    ensures best { result ≡ better_pair fuses.now reaches.now saved.now width keys.now found left right }
+    ensures best { (keys : List ℕ) → All (λ k. k < width) keys → TellsWays keys reaches.now reached.now width → In left keys → In right keys → result ≡ better_pair fuses.now reaches.now saved.now width keys found left right }
     ensures below { IsTrue (found_below width result) }
 {
     if saves_more(saved, width, found, left, right)
-        && may_merge(keys, fuses, reaches, width, left, right)
+        && may_merge(fuses, reaches, reached, width, left, right)
     {
         Some((left, right))
     } else {
@@ -129,17 +141,20 @@ fn better_pair(
 fn best_in_row(
     keys: &[usize],
     fuses: &[bool],
-    reaches: &[bool],
+    reaches: &[u64],
+    reached: &[u64],
     saved: &[u64],
     width: usize,
     left: usize,
     from: usize,
 ) -> Option<(usize, usize)>
-    requires left_in { left < width }
+    requires left_in { In left keys.now }
     requires from_in { from ≤ length keys.now }
     requires keys_in { All (λ k. k < width) keys.now }
     requires fuses_size { length fuses.now ≡ width * width }
-    requires reaches_size { length reaches.now ≡ width * width }
+    requires reaches_size { length reaches.now ≡ width * words width }
+    requires reached_size { length reached.now ≡ width * words width }
+    requires ways { TellsWays keys.now reaches.now reached.now width }
     requires saved_size { length saved.now ≡ width * width }
     ensures best { result ≡ best_in_row fuses.now reaches.now saved.now width keys.now None left (drop from keys.now) }
     ensures below { IsTrue (found_below width result) }
@@ -147,9 +162,9 @@ fn best_in_row(
     let mut found = None;
     for place in from..keys.len() {
         found = better_pair(
-            keys,
             fuses,
             reaches,
+            reached,
             saved,
             width,
             found,
@@ -161,12 +176,7 @@ fn best_in_row(
 }
 
 /// Whether a pair of a row may save more than the one found so far, told the row's bound.
-fn may_beat(
-    saved: &[u64],
-    width: usize,
-    found: Option<(usize, usize)>,
-    bound: Option<u64>,
-) -> bool
+fn may_beat(saved: &[u64], width: usize, found: Option<(usize, usize)>, bound: Option<u64>) -> bool
     requires found_in { IsTrue (found_below width found) }
     requires size { length saved.now ≡ width * width }
     ensures { result ≡ may_beat (amount saved.now width) found bound }
@@ -219,7 +229,8 @@ fn better(
 fn better_in_row(
     keys: &[usize],
     fuses: &[bool],
-    reaches: &[bool],
+    reaches: &[u64],
+    reached: &[u64],
     saved: &[u64],
     bounds: &mut [Option<u64>],
     width: usize,
@@ -231,7 +242,9 @@ fn better_in_row(
     requires rising { IsTrue (all_pairs nat_lt keys.now) }
     requires before_in { IsTrue (found_below width before) }
     requires fuses_size { length fuses.now ≡ width * width }
-    requires reaches_size { length reaches.now ≡ width * width }
+    requires reaches_size { length reaches.now ≡ width * words width }
+    requires reached_size { length reached.now ≡ width * words width }
+    requires ways { TellsWays keys.now reaches.now reached.now width }
     requires saved_size { length saved.now ≡ width * width }
     requires bounds_size { length bounds.old ≡ width }
     requires bounded { Bounded fuses.now reaches.now saved.now width bounds.old keys.now }
@@ -244,7 +257,7 @@ fn better_in_row(
     if !may_beat(saved, width, before, bounds[left]) {
         return before;
     }
-    let best = best_in_row(keys, fuses, reaches, saved, width, left, place + 1);
+    let best = best_in_row(keys, fuses, reaches, reached, saved, width, left, place + 1);
     bounds[left] = saving_of(saved, width, best);
     better(saved, width, before, best)
 }
@@ -253,7 +266,8 @@ fn better_in_row(
 pub(crate) fn next_pair(
     keys: &[usize],
     fuses: &[bool],
-    reaches: &[bool],
+    reaches: &[u64],
+    reached: &[u64],
     saved: &[u64],
     bounds: &mut [Option<u64>],
     width: usize,
@@ -261,11 +275,13 @@ pub(crate) fn next_pair(
     requires keys_in { All (λ k. k < width) keys.now }
     requires rising { IsTrue (all_pairs nat_lt keys.now) }
     requires fuses_size { length fuses.now ≡ width * width }
-    requires reaches_size { length reaches.now ≡ width * width }
+    requires reaches_size { length reaches.now ≡ width * words width }
+    requires reached_size { length reached.now ≡ width * words width }
+    requires ways { TellsWays keys.now reaches.now reached.now width }
     requires saved_size { length saved.now ≡ width * width }
     requires bounds_size { length bounds.old ≡ width }
     requires bounded { Bounded fuses.now reaches.now saved.now width bounds.old keys.now }
-    ensures best { result ≡ next_pair (flag fuses.now width) (flag reaches.now width) (amount saved.now width) keys.now }
+    ensures best { result ≡ next_pair (flag fuses.now width) (bit reaches.now width) (amount saved.now width) keys.now }
     ensures below { IsTrue (found_below width result) }
     ensures bounds_size { length bounds.new ≡ width }
     ensures bounded { Bounded fuses.now reaches.now saved.now width bounds.new keys.now }
@@ -273,7 +289,7 @@ pub(crate) fn next_pair(
     let mut found = None;
     for place in 0..keys.len() {
         found = better_in_row(
-            keys, fuses, reaches, saved, bounds, width, found, place,
+            keys, fuses, reaches, reached, saved, bounds, width, found, place,
         );
     }
     found

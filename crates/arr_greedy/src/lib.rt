@@ -8,9 +8,11 @@
 #![tactic(auto)]
 
 mod choice;
+mod grid;
 mod merging;
 mod plan;
 mod pricing;
+mod reach;
 mod rows;
 mod start;
 mod tables;

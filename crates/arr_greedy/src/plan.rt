@@ -8,8 +8,8 @@ ghost use Rattle.arr_greedy.specs.Standing.{ArePrinted, IsPrinted, blocks_of, ro
 
 use crate::NoMemory;
 use crate::merging::{Block, merge_all, no_block};
-use crate::start::fill_rows;
 use crate::pricing::price_all;
+use crate::start::{reach_table, reached_table};
 use crate::tables::{dep_table, fuse_table};
 use arr_cost::Costs;
 use arr_deps::Graph;
@@ -83,12 +83,12 @@ fn greedy_blocks(alloc: Global, graph: &Graph, costs: &Costs) -> Result<Vec<Vec<
 {
     let count = graph.len() as usize;
     let width = count + 1;
-    let mut fuses = fuse_table(alloc, graph, width)?;
-    let deps = dep_table(alloc, graph, width)?;
-    let mut reaches = vec![in alloc; false; width * width]?;
-    fill_rows(deps.as_slice(), reaches.as_mut_slice(), width);
     let mut blocks = single_blocks(alloc, costs, count)?;
     let mut keys = all_numbers(alloc, count)?;
+    let mut fuses = fuse_table(alloc, graph, width)?;
+    let deps = dep_table(alloc, graph, width)?;
+    let mut reaches = reach_table(alloc, deps.as_slice(), width)?;
+    let mut reached = reached_table(alloc, reaches.as_slice(), keys.as_slice(), width)?;
     let mut saved = vec![in alloc; 0; width * width]?;
     let mut bounds = vec![in alloc; None; width]?;
     price_all(
@@ -97,6 +97,7 @@ fn greedy_blocks(alloc: Global, graph: &Graph, costs: &Costs) -> Result<Vec<Vec<
         keys.as_slice(),
         fuses.as_slice(),
         reaches.as_slice(),
+        reached.as_slice(),
         saved.as_mut_slice(),
         bounds.as_mut_slice(),
         width,
@@ -108,6 +109,7 @@ fn greedy_blocks(alloc: Global, graph: &Graph, costs: &Costs) -> Result<Vec<Vec<
         &mut keys,
         fuses.as_mut_slice(),
         reaches.as_mut_slice(),
+        reached.as_mut_slice(),
         saved.as_mut_slice(),
         bounds.as_mut_slice(),
         width,

@@ -1,10 +1,12 @@
 //! What one block in place of two saves, for each two that may be merged, and the most that is saved in each row.
-ghost use Rattle.std.specs.Prelude.{◌≡◌, ◌<◌, ◌*◌, ℕ, IsTrue, length, None, get_or, nat_lt};
+ghost use Rattle.std.specs.Prelude.{◌≡◌, ◌<◌, ◌≤◌, ◌*◌, ℕ, List, IsTrue, length, None, get_or, nat_lt};
 ghost use Rattle.std.specs.List.{All};
 ghost use Rattle.arr_ops.specs.Formed.{all_pairs};
+ghost use Rattle.arr_ops.specs.Order.{In};
+ghost use Rattle.arr_greedy.specs.Bits.{words};
 ghost use Rattle.arr_greedy.specs.Blocks.{Keyed};
 ghost use Rattle.arr_greedy.specs.Fast.{amount, covers};
-ghost use Rattle.arr_greedy.specs.Tables.{AreAmounts, with_cell};
+ghost use Rattle.arr_greedy.specs.Tables.{AreAmounts, TellsWays, with_cell};
 ghost use Rattle.arr_greedy.specs.Standing.{AllPriced, ArePriced, ArePrinted, IsPriced, PricesStay, rows_of, saving_at};
 
 use crate::choice::may_merge;
@@ -52,9 +54,9 @@ fn raise(bounds: &mut [Option<u64>], row: usize, saving: u64)
 fn price_pair(
     costs: &Costs,
     blocks: &[Block],
-    keys: &[usize],
     fuses: &[bool],
-    reaches: &[bool],
+    reaches: &[u64],
+    reached: &[u64],
     saved: &mut [u64],
     bounds: &mut [Option<u64>],
     width: usize,
@@ -66,17 +68,17 @@ fn price_pair(
     requires blocks_in { length blocks.now ≡ width }
     requires keyed { Keyed (rows_of blocks.now) }
     requires printed { ArePrinted costs.now blocks.now }
-    requires keys_in { All (λ k. k < width) keys.now }
     requires fuses_size { length fuses.now ≡ width * width }
-    requires reaches_size { length reaches.now ≡ width * width }
+    requires reaches_size { length reaches.now ≡ width * words width }
+    requires reached_size { length reached.now ≡ width * words width }
     requires saved_size { length saved.old ≡ width * width }
     requires bounds_size { length bounds.old ≡ width }
     ensures saved_size { length saved.new ≡ width * width }
     ensures bounds_size { length bounds.new ≡ width }
-    ensures priced { IsPriced costs.now blocks.now fuses.now reaches.now keys.now saved.new bounds.new width left right }
-    ensures stays { PricesStay costs.now blocks.now fuses.now reaches.now keys.now saved.old bounds.old saved.new bounds.new width }
+    ensures priced { (keys : List ℕ) → All (λ k. k < width) keys → TellsWays keys reaches.now reached.now width → In left keys → In right keys → IsPriced costs.now blocks.now fuses.now reaches.now keys saved.new bounds.new width left right }
+    ensures stays { (keys : List ℕ) → PricesStay costs.now blocks.now fuses.now reaches.now keys saved.old bounds.old saved.new bounds.new width }
 {
-    if !may_merge(keys, fuses, reaches, width, left, right) {
+    if !may_merge(fuses, reaches, reached, width, left, right) {
         return;
     }
     let saving = pair_saving(costs, blocks, left, right);
@@ -84,46 +86,50 @@ fn price_pair(
     raise(bounds, left, saving);
 }
 
-/// Finds what one block saves in place of a block and one of others, with each that it may be merged with.
+/// Finds what one block saves in place of a block and each of those from a place on that it may be merged with.
 pub(crate) fn price_row(
     costs: &Costs,
     blocks: &[Block],
     keys: &[usize],
-    others: &[usize],
+    from: usize,
     fuses: &[bool],
-    reaches: &[bool],
+    reaches: &[u64],
+    reached: &[u64],
     saved: &mut [u64],
     bounds: &mut [Option<u64>],
     width: usize,
     left: usize,
 )
-    requires left_in { left < width }
+    requires left_in { In left keys.now }
+    requires from_in { from ≤ length keys.now }
     requires blocks_in { length blocks.now ≡ width }
     requires keyed { Keyed (rows_of blocks.now) }
     requires printed { ArePrinted costs.now blocks.now }
     requires keys_in { All (λ k. k < width) keys.now }
-    requires others_in { All (λ k. k < width) others.now }
+    requires ways { TellsWays keys.now reaches.now reached.now width }
     requires fuses_size { length fuses.now ≡ width * width }
-    requires reaches_size { length reaches.now ≡ width * width }
+    requires reaches_size { length reaches.now ≡ width * words width }
+    requires reached_size { length reached.now ≡ width * words width }
     requires saved_size { length saved.old ≡ width * width }
     requires bounds_size { length bounds.old ≡ width }
     ensures saved_size { length saved.new ≡ width * width }
     ensures bounds_size { length bounds.new ≡ width }
-    ensures priced { ArePriced costs.now blocks.now fuses.now reaches.now keys.now saved.new bounds.new width left others.now }
+    ensures priced { ArePriced costs.now blocks.now fuses.now reaches.now keys.now saved.new bounds.new width left from }
     ensures stays { PricesStay costs.now blocks.now fuses.now reaches.now keys.now saved.old bounds.old saved.new bounds.new width }
 {
-    for other in others {
+    for place in from..keys.len() {
+        let other = keys[place];
         price_pair(
             costs,
             blocks,
-            keys,
             fuses,
             reaches,
+            reached,
             saved,
             bounds,
             width,
-            left.min(*other),
-            left.max(*other),
+            left.min(other),
+            left.max(other),
         );
     }
 }
@@ -134,7 +140,8 @@ pub(crate) fn price_all(
     blocks: &[Block],
     keys: &[usize],
     fuses: &[bool],
-    reaches: &[bool],
+    reaches: &[u64],
+    reached: &[u64],
     saved: &mut [u64],
     bounds: &mut [Option<u64>],
     width: usize,
@@ -144,8 +151,10 @@ pub(crate) fn price_all(
     requires printed { ArePrinted costs.now blocks.now }
     requires keys_in { All (λ k. k < width) keys.now }
     requires rising { IsTrue (all_pairs nat_lt keys.now) }
+    requires ways { TellsWays keys.now reaches.now reached.now width }
     requires fuses_size { length fuses.now ≡ width * width }
-    requires reaches_size { length reaches.now ≡ width * width }
+    requires reaches_size { length reaches.now ≡ width * words width }
+    requires reached_size { length reached.now ≡ width * words width }
     requires saved_size { length saved.old ≡ width * width }
     requires bounds_size { length bounds.old ≡ width }
     ensures saved_size { length saved.new ≡ width * width }
@@ -153,14 +162,14 @@ pub(crate) fn price_all(
     ensures priced { AllPriced costs.now blocks.now fuses.now reaches.now keys.now saved.new bounds.new width }
 {
     for place in 0..keys.len() {
-        let (_, behind) = keys.split_at(place + 1);
         price_row(
             costs,
             blocks,
             keys,
-            behind,
+            place + 1,
             fuses,
             reaches,
+            reached,
             saved,
             bounds,
             width,
