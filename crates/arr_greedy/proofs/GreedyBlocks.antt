@@ -160,15 +160,15 @@ pub begun_keys : (list : List Op) (n : ℕ) (blocks : List Block) (keys : List �
 begun_keys list n blocks keys count e k = k ∙ ap (range_with_len 1) count ∙ sym (numbers_are list) ∙ keys_start (numbered list) ∙ ap (map least_of) (sym (begun_blocks list n blocks count e))
 
 -- what the tables tell at the beginning
-pub begun_told : (list : List Op) (w n : ℕ) (blocks : List Block) (fuses deps : List Bool) (reaches : List ℕ) → n ≡ length list → w ≡ n + 1 → rows_of blocks ≡ [] ∷ map single (range_with_len 1 n)
-    → AreFlags fuses w (fuses_at list) → AreFlags deps w (deps_at list) → AreBits reaches w (by_step (flag deps w) (bit reaches w) w) → Told list (blocks_of blocks) (flag fuses w) (bit reaches w)
-begun_told list w n blocks fuses deps reaches count wide e f d r =
+pub begun_told : (list : List Op) (w n : ℕ) (blocks : List Block) (fuses : List Bool) (reaches : List ℕ) → n ≡ length list → w ≡ n + 1 → rows_of blocks ≡ [] ∷ map single (range_with_len 1 n)
+    → AreFlags fuses w (fuses_at list) → AreBits reaches w (by_step (deps_at list) (bit reaches w) w) → Told list (blocks_of blocks) (flag fuses w) (bit reaches w)
+begun_told list w n blocks fuses reaches count wide e f r =
     subst (λ bs. Told list bs (flag fuses w) (bit reaches w)) (sym (begun_blocks list n blocks count e))
-    (told_start list (flag fuses w) (bit reaches w) (started list w (flag fuses w) (flag deps w) (bit reaches w) (omega arith) f d (λ x y xm ym. r x y xm (omega arith))))
+    (told_start list (flag fuses w) (bit reaches w) (started list w (flag fuses w) (deps_at list) (bit reaches w) (omega arith) f (λ x y xm ym. refl) (λ x y xm ym. r x y xm (omega arith))))
 
-pub begun_ways : (list : List Op) (w n : ℕ) (blocks : List Block) (fuses deps : List Bool) (keys reaches reached : List ℕ) → n ≡ length list → w ≡ n + 1 → rows_of blocks ≡ [] ∷ map single (range_with_len 1 n)
-    → AreFlags fuses w (fuses_at list) → AreFlags deps w (deps_at list) → AreBits reaches w (by_step (flag deps w) (bit reaches w) w)
+pub begun_ways : (list : List Op) (w n : ℕ) (blocks : List Block) (fuses : List Bool) (keys reaches reached : List ℕ) → n ≡ length list → w ≡ n + 1 → rows_of blocks ≡ [] ∷ map single (range_with_len 1 n)
+    → AreFlags fuses w (fuses_at list) → AreBits reaches w (by_step (deps_at list) (bit reaches w) w)
     → keys ≡ range_with_len 1 n → All (λ k. k < w) keys
     → ((z : ℕ) → z < columns w → bit reached w 0 z ≡ has keys z) → ((x y : ℕ) → x < w → 0 < y → y < w → bit reached w y x ≡ bit reaches w x y) → TellsWays keys reaches reached w
-begun_ways list w n blocks fuses deps keys reaches reached count wide e f d r k inside live turned =
-    ways_start list (blocks_of blocks) (flag fuses w) keys reaches reached w (begun_told list w n blocks fuses deps reaches count wide e f d r) (begun_keys list n blocks keys count e k) inside live turned
+begun_ways list w n blocks fuses keys reaches reached count wide e f r k inside live turned =
+    ways_start list (blocks_of blocks) (flag fuses w) keys reaches reached w (begun_told list w n blocks fuses reaches count wide e f r) (begun_keys list n blocks keys count e k) inside live turned

@@ -1,5 +1,5 @@
 -- What a table says, row by row.
-use Rattle.std.specs.Prelude.{ℕ, ◌≡◌, ◌<◌, ◌≤◌, ◌≢◌, ◌==◌, ◌&&◌, ◌||◌, List, Bool, Option, None, Some, cond, false, get_or, nat_lt, not, true}
+use Rattle.std.specs.Prelude.{ℕ, ◌≡◌, ◌<◌, ◌≢◌, ◌==◌, ◌&&◌, ◌||◌, List, Bool, Option, None, Some, cond, false, get_or, nat_lt, not, true}
 use Rattle.arr_view.specs.Views.{has}
 use Rattle.arr_ops.specs.Order.{In}
 use Rattle.arr_heur.specs.Planners.{pairs}
@@ -37,10 +37,6 @@ with_turned table turned taken y x = cond (taken x && nat_lt 0 y) (table x y) (t
 -- what a row reaches once it leads another, if it does
 abbrev pub with_step : (ℕ → ℕ → Bool) → ℕ → ℕ → Bool → ℕ → Bool
 with_step table row other leads y = table row y || (leads && (other == y || table other y))
-
--- no row has a column up to itself
-abbrev pub AreForward : List Bool → ℕ → Type 0
-AreForward rows w = (x y : ℕ) → x < w → y < w → y ≤ x → flag rows w x y ≡ false
 
 -- each row but that of b and row 0 has what it reaches once a and b are one
 abbrev pub ReachesAfter : List ℕ → List ℕ → ℕ → ℕ → ℕ → Type 0

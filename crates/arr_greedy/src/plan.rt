@@ -10,7 +10,7 @@ use crate::NoMemory;
 use crate::merging::{Block, merge_all, no_block};
 use crate::pricing::price_all;
 use crate::start::{reach_table, reached_table};
-use crate::tables::{dep_table, fuse_table};
+use crate::tables::fuse_table;
 use arr_cost::Costs;
 use arr_deps::Graph;
 use arr_heur::ordered;
@@ -86,8 +86,7 @@ fn greedy_blocks(alloc: Global, graph: &Graph, costs: &Costs) -> Result<Vec<Vec<
     let mut blocks = single_blocks(alloc, costs, count)?;
     let mut keys = all_numbers(alloc, count)?;
     let mut fuses = fuse_table(alloc, graph, width)?;
-    let deps = dep_table(alloc, graph, width)?;
-    let mut reaches = reach_table(alloc, deps.as_slice(), width)?;
+    let mut reaches = reach_table(alloc, graph, width)?;
     let mut reached = reached_table(alloc, reaches.as_slice(), keys.as_slice(), width)?;
     let mut saved = vec![in alloc; 0; width * width]?;
     let mut bounds = vec![in alloc; None; width]?;

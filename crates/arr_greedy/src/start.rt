@@ -1,14 +1,15 @@
 //! What each block reaches at the start, and what reaches each.
-ghost use Rattle.std.specs.Prelude.{◌≡◌, ◌<◌, ◌≤◌, ◌*◌, ◌||◌, length, ℕ, IfOk, false, nat_eq, nat_lt};
+ghost use Rattle.std.specs.Prelude.{◌≡◌, ◌<◌, ◌≤◌, ◌+◌, ◌*◌, ◌||◌, length, ℕ, IfOk, false, nat_eq, nat_lt};
 ghost use Rattle.std.specs.List.{All};
 ghost use Rattle.arr_view.specs.Views.{has};
 ghost use Rattle.arr_greedy.specs.Bits.{AreBits, bit, columns, words};
-ghost use Rattle.arr_greedy.specs.Fast.{by_step, flag};
-ghost use Rattle.arr_greedy.specs.Tables.{AreForward, with_row, with_step, with_turned};
+ghost use Rattle.arr_greedy.specs.Start.{deps_at};
+ghost use Rattle.arr_greedy.specs.Fast.{by_step};
+ghost use Rattle.arr_greedy.specs.Tables.{with_row, with_step, with_turned};
 
 use crate::NoMemory;
-use crate::choice::at;
 use crate::grid::{has, join_rows, put_bit, words};
+use arr_deps::Graph;
 use std::alloc::Global;
 
 /// Takes another row into a row, and the other itself, if it is to be taken.
@@ -26,46 +27,58 @@ fn take_row(rows: &mut [u64], width: usize, row: usize, other: usize, take: bool
     put_bit(rows, width, row, other, true);
 }
 
-/// Fills a row, clear until now.
-fn fill_row(deps: &[bool], rows: &mut [u64], width: usize, row: usize)
+/// Whether one operation leads another.
+fn deps_at(graph: &Graph, i: usize, j: usize) -> bool
+    requires first { i ≤ length graph.now }
+    requires second { j ≤ length graph.now }
+    requires few { length graph.now ≤ 256 }
+    ensures { result ≡ deps_at graph.now i j }
+{
+    if i == 0 || j == 0 || i == j {
+        return false;
+    }
+    graph.dep(i as u32, j as u32)
+}
+
+/// Fills a row, clear until now, with what an operation reaches. Those that it leads stand behind it, and their rows are filled.
+fn fill_row(graph: &Graph, rows: &mut [u64], width: usize, row: usize)
+    requires width { width ≡ length graph.now + 1 }
+    requires few { length graph.now ≤ 256 }
     requires row_in { row < width }
-    requires deps_size { length deps.now ≡ width * width }
     requires size { length rows.old ≡ width * words width }
-    requires forward { AreForward deps.now width }
     requires clear { (y : ℕ) → y < columns width → bit rows.old width row y ≡ false }
     ensures size { length rows.new ≡ width * words width }
-    ensures row { let was = bit rows.old width in AreBits rows.new width (with_row was row (by_step (flag deps.now width) was width)) }
+    ensures row { let was = bit rows.old width in AreBits rows.new width (with_row was row (by_step (deps_at graph.now) was width)) }
 {
-    for other in 0..width {
-        let take = at(deps, width, row, other);
+    for other in row + 1..width {
+        let take = deps_at(graph, row, other);
         take_row(rows, width, row, other, take);
     }
 }
 
 /// Fills the rows, the last first.
-fn fill_rows(deps: &[bool], rows: &mut [u64], width: usize)
-    requires deps_size { length deps.now ≡ width * width }
+fn fill_rows(graph: &Graph, rows: &mut [u64], width: usize)
+    requires width { width ≡ length graph.now + 1 }
+    requires few { length graph.now ≤ 256 }
     requires size { length rows.old ≡ width * words width }
-    requires forward { AreForward deps.now width }
     requires clear { (x y : ℕ) → x < width → y < columns width → bit rows.old width x y ≡ false }
     ensures size { length rows.new ≡ width * words width }
-    ensures filled { AreBits rows.new width (by_step (flag deps.now width) (bit rows.new width) width) }
+    ensures filled { AreBits rows.new width (by_step (deps_at graph.now) (bit rows.new width) width) }
 {
     for back in 0..width {
-        fill_row(deps, rows, width, width - 1 - back);
+        fill_row(graph, rows, width, width - 1 - back);
     }
 }
 
-/// What each operation reaches by the steps that lead from one to another. Its rows are those of one block an operation.
-pub(crate) fn reach_table(alloc: Global, deps: &[bool], width: usize) -> Result<Vec<u64>, NoMemory>
-    requires few { width ≤ 257 }
-    requires deps_size { length deps.now ≡ width * width }
-    requires forward { AreForward deps.now width }
+/// What each operation reaches, by the steps that lead from one to another.
+pub(crate) fn reach_table(alloc: Global, graph: &Graph, width: usize) -> Result<Vec<u64>, NoMemory>
+    requires width { width ≡ length graph.now + 1 }
+    requires few { length graph.now ≤ 256 }
     ensures long { IfOk result (λ rows. length rows.items ≡ width * words width) }
-    ensures filled { IfOk result (λ rows. AreBits rows.items width (by_step (flag deps.now width) (bit rows.items width) width)) }
+    ensures filled { IfOk result (λ rows. AreBits rows.items width (by_step (deps_at graph.now) (bit rows.items width) width)) }
 {
     let mut rows = vec![in alloc; 0; width * words(width)]?;
-    fill_rows(deps, rows.as_mut_slice(), width);
+    fill_rows(graph, rows.as_mut_slice(), width);
     Ok(rows)
 }
 
