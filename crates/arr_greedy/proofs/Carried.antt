@@ -143,7 +143,7 @@ pub priced_after : (list : List Op) (before after : List Block) (F f : List Bool
     → ((k : ℕ) → In k next → k ≢ x → block_at k (blocks_of after) ≡ block_at k (blocks_of before))
     → AllPriced list before F R keys V bounds w
     → ArePriced list after f r next v bounds_after w x 0
-    → PricesStay list after f r next V bounds v bounds_after w
+    → PricesStay list after f r V bounds v bounds_after w
     → AllPriced list after f r next v bounds_after w
 priced_after list before after F f R r keys next V v bounds bounds_after w x y rises inside above ix ne en hf hr same old new stays p i =
     let b = both_in next p i in
@@ -162,7 +162,7 @@ priced_after list before after F f R r keys next V v bounds bounds_after w x y r
             let i' : In p (pairs (filter (λ k. not (k == y)) keys)) = subst (λ ks. In p (pairs ks)) en i in
             let m = pairs_less (λ k. not (k == y)) keys p i' in
             let k = both_in keys p m in
-            stays p.0 p.1 (in_below keys w inside p.0 k.0) (in_below keys w inside p.1 k.1) (λ t.
+            stays next p.0 p.1 (in_below keys w inside p.0 k.0) (in_below keys w inside p.1 k.1) (λ t.
             let was = old p m (may_before (flag F w) (bit R w) (flag f w) (bit r w) keys w x y inside above ix ne hf hr p i' e g (ap (λ ks. may_merge (flag f w) (bit r w) ks p) (sym en) ∙ t)) in
             (was.0 ∙ ap₂ (λ s u. saving list (s, u)) (sym (same p.0 b.0 e)) (sym (same p.1 b.1 g)), was.1))
       ]

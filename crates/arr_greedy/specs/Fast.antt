@@ -57,6 +57,10 @@ abbrev pub covers : Option ℕ → ℕ → Bool
 covers None s = false
 covers (Some most) s = not (nat_lt most s)
 
+-- what the bounds of rows are no less than stays so
+abbrev pub CoverStill : List (Option ℕ) → List (Option ℕ) → Type 0
+CoverStill old new = (x s : ℕ) → covers (get_or old x None) s ≡ true → covers (get_or new x None) s ≡ true
+
 -- a pair of a row with a bound may save more than one that was found
 abbrev pub may_beat : (ℕ → ℕ → ℕ) → Option (ℕ × ℕ) → Option ℕ → Bool
 may_beat saved found None = false

@@ -54,6 +54,6 @@ abbrev pub AllPriced : List Op → List Block → List Bool → List ℕ → Lis
 AllPriced list blocks fuses reaches keys saved bounds w = (p : ℕ × ℕ) → In p (pairs keys) → IsPriced list blocks fuses reaches keys saved bounds w p.0 p.1
 
 -- what is so with some savings and bounds is so with others
-abbrev pub PricesStay : List Op → List Block → List Bool → List ℕ → List ℕ → List ℕ → List (Option ℕ) → List ℕ → List (Option ℕ) → ℕ → Type 0
-PricesStay list blocks fuses reaches keys saved bounds saved_after bounds_after w =
-    (x y : ℕ) → x < w → y < w → IsPriced list blocks fuses reaches keys saved bounds w x y → IsPriced list blocks fuses reaches keys saved_after bounds_after w x y
+abbrev pub PricesStay : List Op → List Block → List Bool → List ℕ → List ℕ → List (Option ℕ) → List ℕ → List (Option ℕ) → ℕ → Type 0
+PricesStay list blocks fuses reaches saved bounds saved_after bounds_after w =
+    (keys : List ℕ) (x y : ℕ) → x < w → y < w → IsPriced list blocks fuses reaches keys saved bounds w x y → IsPriced list blocks fuses reaches keys saved_after bounds_after w x y

@@ -1,11 +1,12 @@
 -- What a table says, row by row.
-use Rattle.std.specs.Prelude.{ℕ, ◌≡◌, ◌<◌, ◌≢◌, ◌==◌, ◌&&◌, ◌||◌, List, Bool, Option, None, Some, cond, false, get_or, nat_lt, not, true}
+use Rattle.std.specs.Prelude.{ℕ, ◌≡◌, ◌+◌, ◌<◌, ◌≢◌, ◌==◌, ◌&&◌, ◌||◌, List, Bool, Option, None, Some, cond, drop, false, get_or, nat_lt, not, true}
 use Rattle.arr_view.specs.Views.{has}
 use Rattle.arr_ops.specs.Order.{In}
 use Rattle.arr_heur.specs.Planners.{pairs}
-use Rattle.arr_greedy.specs.Fast.{amount, best_after, covers, flag, may_merge, row_pairs, saves_more}
-use Rattle.arr_greedy.specs.Bits.{bit, columns}
-use Rattle.arr_greedy.specs.Ways.{reach_after}
+use Rattle.arr_greedy.specs.Fast.{amount, best_after, by_step, covers, flag, may_merge, row_pairs, saves_more}
+use Rattle.arr_greedy.specs.Bits.{AreBits, bit, columns}
+use Rattle.std.specs.List.{All}
+use Rattle.arr_greedy.specs.Ways.{gains, reach_after}
 
 -- a table of width w has at each row and column what a function gives
 abbrev pub AreFlags : List Bool → ℕ → (ℕ → ℕ → Bool) → Type 0
@@ -34,13 +35,49 @@ with_gained table a b row x y = cond ((x == row && not (row == a || row == b)) &
 abbrev pub with_turned : (ℕ → ℕ → Bool) → (ℕ → ℕ → Bool) → (ℕ → Bool) → ℕ → ℕ → Bool
 with_turned table turned taken y x = cond (taken x && nat_lt 0 y) (table x y) (turned y x)
 
+-- one row as what two have
+abbrev pub with_joined : (ℕ → ℕ → Bool) → ℕ → ℕ → ℕ → ℕ → ℕ → Bool
+with_joined table into first second = with_row table into (λ x y. table first y || table second y)
+
+-- the row of a as what each gains that reaches a or b
+abbrev pub with_gains : (ℕ → ℕ → Bool) → ℕ → ℕ → ℕ → ℕ → Bool
+with_gains table a b = with_row table a (λ x y. gains table a b y)
+
 -- what a row reaches once it leads another, if it does
 abbrev pub with_step : (ℕ → ℕ → Bool) → ℕ → ℕ → Bool → ℕ → Bool
 with_step table row other leads y = table row y || (leads && (other == y || table other y))
 
+-- that row as what it reaches then
+abbrev pub with_taken : (ℕ → ℕ → Bool) → ℕ → ℕ → Bool → ℕ → ℕ → Bool
+with_taken table row other leads = with_row table row (λ x y. with_step table row other leads y)
+
+-- one row as what it reaches by one step and on
+abbrev pub with_filled : (ℕ → ℕ → Bool) → (ℕ → ℕ → Bool) → ℕ → ℕ → ℕ → ℕ → Bool
+with_filled deps table w row = with_row table row (by_step deps table w)
+
+-- row 0 with the keys
+abbrev pub with_keys : (ℕ → ℕ → Bool) → List ℕ → ℕ → ℕ → Bool
+with_keys table keys = with_row table 0 (λ x y. table x y || has keys y)
+
+-- the row of a as what the rows of a and b have both
+abbrev pub with_shared : (ℕ → ℕ → Bool) → ℕ → ℕ → ℕ → ℕ → Bool
+with_shared table a b = with_row table a (λ x y. table a y && table b y)
+
 -- each row but that of b and row 0 has what it reaches once a and b are one
 abbrev pub ReachesAfter : List ℕ → List ℕ → ℕ → ℕ → ℕ → Type 0
 ReachesAfter old new w a b = (x y : ℕ) → 0 < x → x < w → y < w → x ≢ b → bit new w x y ≡ reach_after (λ k. k) (bit old w) a b x y
+
+-- each row has what it reaches by one step and on
+abbrev pub IsFilled : (ℕ → ℕ → Bool) → List ℕ → ℕ → Type 0
+IsFilled deps rows w = AreBits rows w (by_step deps (bit rows w) w)
+
+-- row 0 has the keys alone
+abbrev pub HasLive : List ℕ → ℕ → List ℕ → Type 0
+HasLive rows w keys = (z : ℕ) → z < columns w → bit rows w 0 z ≡ has keys z
+
+-- a table's other rows are another's columns
+abbrev pub IsTurned : List ℕ → List ℕ → ℕ → Type 0
+IsTurned rows turned w = (x y : ℕ) → x < w → 0 < y → y < w → bit turned w y x ≡ bit rows w x y
 
 -- once b is part of a, no block reaches itself
 abbrev pub NoLoopsAfter : List ℕ → ℕ → List ℕ → ℕ → ℕ → Type 0
@@ -59,6 +96,18 @@ better_pair fuses reaches saved w keys found x y = cond (may_merge (flag fuses w
 -- the best pair of one with each of others, after what was found before
 abbrev pub best_in_row : List Bool → List ℕ → List ℕ → ℕ → List ℕ → Option (ℕ × ℕ) → ℕ → List ℕ → Option (ℕ × ℕ)
 best_in_row fuses reaches saved w keys before x others = best_after (λ (p : ℕ × ℕ). amount saved w p.0 p.1) (may_merge (flag fuses w) (bit reaches w) keys) before (row_pairs x others)
+
+-- two keys of blocks that stand, of which the tables tell
+abbrev pub AreTold : List ℕ → List ℕ → ℕ → List ℕ → ℕ → ℕ → Type 0
+AreTold reaches reached w keys a b = All (λ k. k < w) keys × TellsWays keys reaches reached w × In a keys × In b keys
+
+-- whether the tables say that two may be merged
+abbrev pub merges : List Bool → List ℕ → ℕ → List ℕ → ℕ → ℕ → Bool
+merges fuses reaches w keys a b = may_merge (flag fuses w) (bit reaches w) keys (a, b)
+
+-- the best pair of the key at a place with each behind it, after what was found before
+abbrev pub best_at : List Bool → List ℕ → List ℕ → ℕ → List ℕ → Option (ℕ × ℕ) → ℕ → Option (ℕ × ℕ)
+best_at fuses reaches saved w keys before place = best_in_row fuses reaches saved w keys before (get_or keys place 0) (drop (place + 1) keys)
 
 -- each pair of keys that may be merged saves no more than the bound of its row
 abbrev pub Bounded : List Bool → List ℕ → List ℕ → ℕ → List (Option ℕ) → List ℕ → Type 0

@@ -1,13 +1,12 @@
 //! Which two blocks are merged next.
-ghost use Rattle.std.specs.Prelude.{◌≡◌, ◌<◌, ◌≤◌, ◌+◌, ◌*◌, ◌/◌, ◌%◌, ℕ, List, length, IsTrue, None, drop, get_or, nat_lt};
+ghost use Rattle.std.specs.Prelude.{◌≡◌, ◌<◌, ◌≤◌, ◌*◌, ℕ, List, length, IsTrue, None, drop, nat_lt};
 ghost use Rattle.std.specs.List.{All};
 ghost use Rattle.std.specs.Option.{option_map};
 ghost use Rattle.arr_ops.specs.Formed.{all_pairs};
 ghost use Rattle.arr_ops.specs.Order.{In};
-ghost use Rattle.arr_cost.specs.Footprints.{has_bit};
-ghost use Rattle.arr_greedy.specs.Bits.{bit, columns, stands_between, words};
-ghost use Rattle.arr_greedy.specs.Fast.{amount, any_below, better, flag, found_below, may_beat, may_merge, next_pair, saves_more};
-ghost use Rattle.arr_greedy.specs.Tables.{Bounded, TellsWays, best_in_row, better_pair};
+ghost use Rattle.arr_greedy.specs.Bits.{AreBetween, bit, some_stands, words};
+ghost use Rattle.arr_greedy.specs.Fast.{amount, better, flag, found_below, may_beat, next_pair, saves_more};
+ghost use Rattle.arr_greedy.specs.Tables.{AreTold, Bounded, TellsWays, best_at, best_in_row, better_pair, merges};
 
 use crate::grid::words;
 
@@ -45,7 +44,7 @@ fn between(
     requires index_in { index < words width }
     requires reaches_size { length reaches.now ≡ width * words width }
     requires reached_size { length reached.now ≡ width * words width }
-    ensures { (z : ℕ) → z / 64 ≡ index → has_bit result (z % 64) ≡ stands_between (bit reaches.now width) (bit reached.now width) left right z }
+    ensures { AreBetween reaches.now reached.now width left right index result }
 {
     let first = left * words(width) + index;
     let second = right * words(width) + index;
@@ -58,7 +57,7 @@ fn some_stands(reaches: &[u64], reached: &[u64], width: usize, left: usize, righ
     requires right_in { right < width }
     requires reaches_size { length reaches.now ≡ width * words width }
     requires reached_size { length reached.now ≡ width * words width }
-    ensures { result ≡ any_below (stands_between (bit reaches.now width) (bit reached.now width) left right) (columns width) }
+    ensures { result ≡ some_stands reaches.now reached.now width left right }
 {
     for index in 0..words(width) {
         if between(reaches, reached, width, left, right, index) != 0 {
@@ -82,7 +81,7 @@ pub(crate) fn may_merge(
     requires fuses_size { length fuses.now ≡ width * width }
     requires reaches_size { length reaches.now ≡ width * words width }
     requires reached_size { length reached.now ≡ width * words width }
-    ensures { (keys : List ℕ) → All (λ k. k < width) keys → TellsWays keys reaches.now reached.now width → In left keys → In right keys → result ≡ may_merge (flag fuses.now width) (bit reaches.now width) keys (left, right) }
+    ensures { (keys : List ℕ) → AreTold reaches.now reached.now width keys left right → result ≡ merges fuses.now reaches.now width keys left right }
 {
     at(fuses, width, left, right) && !some_stands(reaches, reached, width, left, right)
 }
@@ -125,7 +124,7 @@ fn better_pair(
     requires reaches_size { length reaches.now ≡ width * words width }
     requires reached_size { length reached.now ≡ width * words width }
     requires saved_size { length saved.now ≡ width * width }
-    ensures best { (keys : List ℕ) → All (λ k. k < width) keys → TellsWays keys reaches.now reached.now width → In left keys → In right keys → result ≡ better_pair fuses.now reaches.now saved.now width keys found left right }
+    ensures best { (keys : List ℕ) → AreTold reaches.now reached.now width keys left right → result ≡ better_pair fuses.now reaches.now saved.now width keys found left right }
     ensures below { IsTrue (found_below width result) }
 {
     if saves_more(saved, width, found, left, right)
@@ -248,7 +247,7 @@ fn better_in_row(
     requires saved_size { length saved.now ≡ width * width }
     requires bounds_size { length bounds.old ≡ width }
     requires bounded { Bounded fuses.now reaches.now saved.now width bounds.old keys.now }
-    ensures best { result ≡ best_in_row fuses.now reaches.now saved.now width keys.now before (get_or keys.now place 0) (drop (place + 1) keys.now) }
+    ensures best { result ≡ best_at fuses.now reaches.now saved.now width keys.now before place }
     ensures below { IsTrue (found_below width result) }
     ensures bounds_size { length bounds.new ≡ width }
     ensures bounded { Bounded fuses.now reaches.now saved.now width bounds.new keys.now }

@@ -2,7 +2,7 @@
 ghost use Rattle.std.specs.Prelude.{◌≡◌, ◌<◌, ◌*◌, ◌==◌, ◌||◌, ℕ, cond, length};
 ghost use Rattle.arr_cost.specs.Footprints.{has_bit};
 ghost use Rattle.arr_greedy.specs.Bits.{AreBits, bit, words};
-ghost use Rattle.arr_greedy.specs.Tables.{with_cell, with_row};
+ghost use Rattle.arr_greedy.specs.Tables.{with_cell, with_joined};
 
 /// How many words a row takes that has the columns below a width.
 pub(crate) fn words(width: usize) -> usize
@@ -51,7 +51,7 @@ pub(crate) fn join_rows(rows: &mut [u64], width: usize, into: usize, first: usiz
     requires second_in { second < width }
     requires size { length rows.old ≡ width * words width }
     ensures size { length rows.new ≡ width * words width }
-    ensures joined { let was = bit rows.old width in AreBits rows.new width (with_row was into (λ x y. was first y || was second y)) }
+    ensures joined { AreBits rows.new width (with_joined (bit rows.old width) into first second) }
 {
     let count = words(width);
     for index in 0..count {

@@ -208,7 +208,7 @@ fn one_turn(
     ensures reaches { ReachesAfter reaches.old reaches.new width left right }
     ensures ways { IfOk result (λ done. TellsWays keys.new.items reaches.new reached.new width) }
     ensures priced { IfOk result (λ done. ArePriced costs.now blocks.new.items fuses.new reaches.new keys.new.items saved.new bounds.new width left 0) }
-    ensures stays { IfOk result (λ done. PricesStay costs.now blocks.new.items fuses.new reaches.new keys.new.items saved.old bounds.old saved.new bounds.new width) }
+    ensures stays { IfOk result (λ done. PricesStay costs.now blocks.new.items fuses.new reaches.new saved.old bounds.old saved.new bounds.new width) }
 {
     fuse_rows(fuses, width, left, right);
     reach_rows(reaches, width, left, right);

@@ -1,12 +1,12 @@
 //! What one block in place of two saves, for each two that may be merged, and the most that is saved in each row.
-ghost use Rattle.std.specs.Prelude.{◌≡◌, ◌<◌, ◌≤◌, ◌*◌, ℕ, List, IsTrue, length, None, get_or, nat_lt};
+ghost use Rattle.std.specs.Prelude.{◌≡◌, ◌<◌, ◌≤◌, ◌*◌, List, ℕ, IsTrue, length, None, get_or, nat_lt};
 ghost use Rattle.std.specs.List.{All};
 ghost use Rattle.arr_ops.specs.Formed.{all_pairs};
 ghost use Rattle.arr_ops.specs.Order.{In};
 ghost use Rattle.arr_greedy.specs.Bits.{words};
 ghost use Rattle.arr_greedy.specs.Blocks.{Keyed};
-ghost use Rattle.arr_greedy.specs.Fast.{amount, covers};
-ghost use Rattle.arr_greedy.specs.Tables.{AreAmounts, TellsWays, with_cell};
+ghost use Rattle.arr_greedy.specs.Fast.{CoverStill, amount, covers};
+ghost use Rattle.arr_greedy.specs.Tables.{AreAmounts, AreTold, TellsWays, with_cell};
 ghost use Rattle.arr_greedy.specs.Standing.{AllPriced, ArePriced, ArePrinted, IsPriced, PricesStay, rows_of, saving_at};
 
 use crate::choice::may_merge;
@@ -40,7 +40,7 @@ fn raise(bounds: &mut [Option<u64>], row: usize, saving: u64)
     requires row_in { row < length bounds.old }
     ensures size { length bounds.new ≡ length bounds.old }
     ensures raised { IsTrue (covers (get_or bounds.new row None) saving) }
-    ensures rest { (x s : ℕ) → IsTrue (covers (get_or bounds.old x None) s) → IsTrue (covers (get_or bounds.new x None) s) }
+    ensures rest { CoverStill bounds.old bounds.new }
 {
     if let Some(most) = bounds[row] {
         if saving <= most {
@@ -75,8 +75,8 @@ fn price_pair(
     requires bounds_size { length bounds.old ≡ width }
     ensures saved_size { length saved.new ≡ width * width }
     ensures bounds_size { length bounds.new ≡ width }
-    ensures priced { (keys : List ℕ) → All (λ k. k < width) keys → TellsWays keys reaches.now reached.now width → In left keys → In right keys → IsPriced costs.now blocks.now fuses.now reaches.now keys saved.new bounds.new width left right }
-    ensures stays { (keys : List ℕ) → PricesStay costs.now blocks.now fuses.now reaches.now keys saved.old bounds.old saved.new bounds.new width }
+    ensures priced { (keys : List ℕ) → AreTold reaches.now reached.now width keys left right → IsPriced costs.now blocks.now fuses.now reaches.now keys saved.new bounds.new width left right }
+    ensures stays { PricesStay costs.now blocks.now fuses.now reaches.now saved.old bounds.old saved.new bounds.new width }
 {
     if !may_merge(fuses, reaches, reached, width, left, right) {
         return;
@@ -115,7 +115,7 @@ pub(crate) fn price_row(
     ensures saved_size { length saved.new ≡ width * width }
     ensures bounds_size { length bounds.new ≡ width }
     ensures priced { ArePriced costs.now blocks.now fuses.now reaches.now keys.now saved.new bounds.new width left from }
-    ensures stays { PricesStay costs.now blocks.now fuses.now reaches.now keys.now saved.old bounds.old saved.new bounds.new width }
+    ensures stays { PricesStay costs.now blocks.now fuses.now reaches.now saved.old bounds.old saved.new bounds.new width }
 {
     for place in from..keys.len() {
         let other = keys[place];

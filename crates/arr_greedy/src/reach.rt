@@ -1,8 +1,7 @@
 //! Which blocks reach which, and what a merge makes of that.
 ghost use Rattle.std.specs.Prelude.{◌≡◌, ◌<◌, ◌*◌, ◌≢◌, ℕ, length};
 ghost use Rattle.arr_greedy.specs.Bits.{AreBits, bit, columns, words};
-ghost use Rattle.arr_greedy.specs.Ways.{gains};
-ghost use Rattle.arr_greedy.specs.Tables.{ReachesAfter, with_gained, with_row};
+ghost use Rattle.arr_greedy.specs.Tables.{ReachesAfter, with_gained, with_gains};
 
 use crate::grid::{has, join_rows, put_bit};
 
@@ -12,7 +11,7 @@ fn gain_row(rows: &mut [u64], width: usize, left: usize, right: usize)
     requires right_in { right < width }
     requires size { length rows.old ≡ width * words width }
     ensures size { length rows.new ≡ width * words width }
-    ensures row { let was = bit rows.old width in AreBits rows.new width (with_row was left (λ x y. gains was left right y)) }
+    ensures row { AreBits rows.new width (with_gains (bit rows.old width) left right) }
 {
     join_rows(rows, width, left, left, right);
     put_bit(rows, width, left, left, true);

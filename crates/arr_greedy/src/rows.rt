@@ -1,7 +1,7 @@
 //! Which blocks may be one block, and what a merge makes of that.
 ghost use Rattle.std.specs.Prelude.{◌≡◌, ◌<◌, ◌*◌, ◌==◌, ◌&&◌, ◌≢◌, ◌||◌, length};
 ghost use Rattle.arr_greedy.specs.Fast.{flag, fuses_after};
-ghost use Rattle.arr_greedy.specs.Tables.{AreFlags, with_both, with_cell, with_row};
+ghost use Rattle.arr_greedy.specs.Tables.{AreFlags, with_both, with_cell, with_shared};
 
 use crate::choice::at;
 
@@ -23,7 +23,7 @@ fn fuse_row(rows: &mut [bool], width: usize, left: usize, right: usize)
     requires apart { left ≢ right }
     requires size { length rows.old ≡ width * width }
     ensures size { length rows.new ≡ width * width }
-    ensures row { let was = flag rows.old width in AreFlags rows.new width (with_row was left (λ x y. was left y && was right y)) }
+    ensures row { AreFlags rows.new width (with_shared (flag rows.old width) left right) }
 {
     for column in 0..width {
         let both = at(rows, width, left, column) && at(rows, width, right, column);

@@ -1,11 +1,9 @@
 //! What each block reaches at the start, and what reaches each.
 ghost use Rattle.std.specs.Prelude.{◌≡◌, ◌<◌, ◌≤◌, ◌+◌, ◌*◌, ◌||◌, length, ℕ, IfOk, false, nat_eq, nat_lt};
 ghost use Rattle.std.specs.List.{All};
-ghost use Rattle.arr_view.specs.Views.{has};
 ghost use Rattle.arr_greedy.specs.Bits.{AreBits, bit, columns, words};
 ghost use Rattle.arr_greedy.specs.Start.{deps_at};
-ghost use Rattle.arr_greedy.specs.Fast.{by_step};
-ghost use Rattle.arr_greedy.specs.Tables.{with_row, with_step, with_turned};
+ghost use Rattle.arr_greedy.specs.Tables.{HasLive, IsFilled, IsTurned, with_filled, with_keys, with_taken, with_turned};
 
 use crate::NoMemory;
 use crate::grid::{has, join_rows, put_bit, words};
@@ -18,7 +16,7 @@ fn take_row(rows: &mut [u64], width: usize, row: usize, other: usize, take: bool
     requires other_in { other < width }
     requires size { length rows.old ≡ width * words width }
     ensures size { length rows.new ≡ width * words width }
-    ensures row { let was = bit rows.old width in AreBits rows.new width (with_row was row (λ x y. with_step was row other take y)) }
+    ensures row { AreBits rows.new width (with_taken (bit rows.old width) row other take) }
 {
     if !take {
         return;
@@ -48,7 +46,7 @@ fn fill_row(graph: &Graph, rows: &mut [u64], width: usize, row: usize)
     requires size { length rows.old ≡ width * words width }
     requires clear { (y : ℕ) → y < columns width → bit rows.old width row y ≡ false }
     ensures size { length rows.new ≡ width * words width }
-    ensures row { let was = bit rows.old width in AreBits rows.new width (with_row was row (by_step (deps_at graph.now) was width)) }
+    ensures row { AreBits rows.new width (with_filled (deps_at graph.now) (bit rows.old width) width row) }
 {
     for other in row + 1..width {
         let take = deps_at(graph, row, other);
@@ -63,7 +61,7 @@ fn fill_rows(graph: &Graph, rows: &mut [u64], width: usize)
     requires size { length rows.old ≡ width * words width }
     requires clear { (x y : ℕ) → x < width → y < columns width → bit rows.old width x y ≡ false }
     ensures size { length rows.new ≡ width * words width }
-    ensures filled { AreBits rows.new width (by_step (deps_at graph.now) (bit rows.new width) width) }
+    ensures filled { IsFilled (deps_at graph.now) rows.new width }
 {
     for back in 0..width {
         fill_row(graph, rows, width, width - 1 - back);
@@ -75,7 +73,7 @@ pub(crate) fn reach_table(alloc: Global, graph: &Graph, width: usize) -> Result<
     requires width { width ≡ length graph.now + 1 }
     requires few { length graph.now ≤ 256 }
     ensures long { IfOk result (λ rows. length rows.items ≡ width * words width) }
-    ensures filled { IfOk result (λ rows. AreBits rows.items width (by_step (deps_at graph.now) (bit rows.items width) width)) }
+    ensures filled { IfOk result (λ rows. IsFilled (deps_at graph.now) rows.items width) }
 {
     let mut rows = vec![in alloc; 0; width * words(width)]?;
     fill_rows(graph, rows.as_mut_slice(), width);
@@ -114,7 +112,7 @@ fn mark_keys(rows: &mut [u64], width: usize, keys: &[usize])
     requires keys_in { All (λ k. k < width) keys.now }
     requires size { length rows.old ≡ width * words width }
     ensures size { length rows.new ≡ width * words width }
-    ensures marked { let was = bit rows.old width in AreBits rows.new width (with_row was 0 (λ x y. was x y || has keys.now y)) }
+    ensures marked { AreBits rows.new width (with_keys (bit rows.old width) keys.now) }
 {
     for key in keys {
         put_bit(rows, width, 0, *key, true);
@@ -133,8 +131,8 @@ pub(crate) fn reached_table(
     requires reaches_size { length reaches.now ≡ width * words width }
     requires keys_in { All (λ k. k < width) keys.now }
     ensures long { IfOk result (λ rows. length rows.items ≡ width * words width) }
-    ensures live { IfOk result (λ rows. (z : ℕ) → z < columns width → bit rows.items width 0 z ≡ has keys.now z) }
-    ensures turned { IfOk result (λ rows. (x y : ℕ) → x < width → 0 < y → y < width → bit rows.items width y x ≡ bit reaches.now width x y) }
+    ensures live { IfOk result (λ rows. HasLive rows.items width keys.now) }
+    ensures turned { IfOk result (λ rows. IsTurned reaches.now rows.items width) }
 {
     let mut rows = vec![in alloc; 0; width * words(width)]?;
     turn_rows(reaches, rows.as_mut_slice(), width);

@@ -41,6 +41,4 @@ returns-clause-priced c =
 
 pub returns-clause-stays : goal.returns-clause-stays
 returns-clause-stays c =
-    subst (λ keys. PricesStay c.args.costs.now c.join.new.blocks.items c.fuse_rows.new.rows c.reach_rows.new.rows keys c.args.saved.now c.args.bounds.now c.price_row.new.saved c.price_row.new.bounds c.args.width) c.as_slice-2.ensures.value
-    (subst (λ blocks. PricesStay c.args.costs.now blocks c.fuse_rows.new.rows c.reach_rows.new.rows c.as_slice-2.result.now c.args.saved.now c.args.bounds.now c.price_row.new.saved c.price_row.new.bounds c.args.width) c.as_slice.ensures.value
-    c.price_row.ensures.stays)
+    subst (λ blocks. PricesStay c.args.costs.now blocks c.fuse_rows.new.rows c.reach_rows.new.rows c.args.saved.now c.args.bounds.now c.price_row.new.saved c.price_row.new.bounds c.args.width) c.as_slice.ensures.value c.price_row.ensures.stays

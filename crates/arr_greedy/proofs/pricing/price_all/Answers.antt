@@ -33,6 +33,6 @@ loop-place-preserved c =
         ]
         | inr h ↦
             let b = both_in keys p i in
-            inr (c.price_row.ensures.stays p.0 p.1 (in_below keys c.args.width c.requires.keys_in p.0 b.0) (in_below keys c.args.width c.requires.keys_in p.1 b.1) h)
+            inr (c.price_row.ensures.stays keys p.0 p.1 (in_below keys c.args.width c.requires.keys_in p.0 b.0) (in_below keys c.args.width c.requires.keys_in p.1 b.1) h)
       ];
     }

@@ -36,9 +36,9 @@ loop-place-preserved c =
             let e : c.loop-place.place ≡ i = omega arith in
             subst (λ k. P (min c.args.left (get_or keys k 0)) (max c.args.left (get_or keys k 0))) e
             (subst (λ x. P x (max c.args.left other)) c.min.ensures (subst (λ y. P c.min.result y) c.max.ensures
-            (c.price_pair.ensures.priced keys c.requires.keys_in c.requires.ways (subst (λ x. In x keys) (sym c.min.ensures) ends.0) (subst (λ x. In x keys) (sym c.max.ensures) ends.1))))
+            (c.price_pair.ensures.priced keys (c.requires.keys_in, c.requires.ways, subst (λ x. In x keys) (sym c.min.ensures) ends.0, subst (λ x. In x keys) (sym c.max.ensures) ends.1))))
       ];
-      stays = λ x y lx ly h. c.price_pair.ensures.stays keys x y lx ly (c.loop-place.invariant.stays x y lx ly h);
+      stays = λ keys x y lx ly h. c.price_pair.ensures.stays keys x y lx ly (c.loop-place.invariant.stays keys x y lx ly h);
     }
   where
     least_most : (keys : List ℕ) (a b : ℕ) → In a keys → In b keys → In (min a b) keys × In (max a b) keys
