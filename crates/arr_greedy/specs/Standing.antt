@@ -9,6 +9,7 @@ use Rattle.arr_heur.specs.Planners.{merge, pairs, saving, union}
 use Rattle.arr_greedy.specs.declared.merging.Block.{Block}
 use Rattle.arr_greedy.specs.Bits.{bit}
 use Rattle.arr_greedy.specs.Blocks.{live, row_at}
+use Rattle.arr_greedy.specs.Tables.{AreTold}
 use Rattle.arr_greedy.specs.Fast.{amount, block_at, covers, flag, may_merge}
 
 -- the numbers of each, none where no block stands
@@ -25,6 +26,10 @@ IsPrinted list b = IsFootprint list b.numbers.items b.print
 
 abbrev pub ArePrinted : List Op → List Block → Type 0
 ArePrinted list blocks = All (IsPrinted list) blocks
+
+-- a block has the numbers of two
+abbrev pub IsUnion : List Op → Block → Block → Block → Type 0
+IsUnion list a b both = both.numbers.items ≡ union (numbered list) a.numbers.items b.numbers.items
 
 -- the numbers at two places, as one block
 abbrev pub union_at : List Op → List Block → ℕ → ℕ → List ℕ
@@ -43,6 +48,10 @@ abbrev pub IsPriced : List Op → List Block → List Bool → List ℕ → List
 IsPriced list blocks fuses reaches keys saved bounds w x y =
     may_merge (flag fuses w) (bit reaches w) keys (x, y) ≡ true
     → (amount saved w x y ≡ saving_at list blocks x y) × (covers (get_or bounds x None) (amount saved w x y) ≡ true)
+
+-- so for whatever keys the tables tell of
+abbrev pub IsPricedOf : List Op → List Block → List Bool → List ℕ → List ℕ → List ℕ → List (Option ℕ) → ℕ → ℕ → ℕ → Type 0
+IsPricedOf list blocks fuses reaches reached saved bounds w x y = (keys : List ℕ) → AreTold reaches reached w keys x y → IsPriced list blocks fuses reaches keys saved bounds w x y
 
 -- so for each pair of a key and one of the keys from a place on, the lesser first
 abbrev pub ArePriced : List Op → List Block → List Bool → List ℕ → List ℕ → List ℕ → List (Option ℕ) → ℕ → ℕ → ℕ → Type 0

@@ -105,6 +105,14 @@ AreTold reaches reached w keys a b = All (λ k. k < w) keys × TellsWays keys re
 abbrev pub merges : List Bool → List ℕ → ℕ → List ℕ → ℕ → ℕ → Bool
 merges fuses reaches w keys a b = may_merge (flag fuses w) (bit reaches w) keys (a, b)
 
+-- an answer whether two may be merged, for whatever keys the tables tell of
+abbrev pub SaysMerges : List Bool → List ℕ → List ℕ → ℕ → ℕ → ℕ → Bool → Type 0
+SaysMerges fuses reaches reached w a b answer = (keys : List ℕ) → AreTold reaches reached w keys a b → answer ≡ merges fuses reaches w keys a b
+
+-- so the better of two and of what was found
+abbrev pub IsBetter : List Bool → List ℕ → List ℕ → List ℕ → ℕ → Option (ℕ × ℕ) → ℕ → ℕ → Option (ℕ × ℕ) → Type 0
+IsBetter fuses reaches reached saved w found a b best = (keys : List ℕ) → AreTold reaches reached w keys a b → best ≡ better_pair fuses reaches saved w keys found a b
+
 -- the best pair of the key at a place with each behind it, after what was found before
 abbrev pub best_at : List Bool → List ℕ → List ℕ → ℕ → List ℕ → Option (ℕ × ℕ) → ℕ → Option (ℕ × ℕ)
 best_at fuses reaches saved w keys before place = best_in_row fuses reaches saved w keys before (get_or keys place 0) (drop (place + 1) keys)

@@ -1,12 +1,12 @@
 //! Which two blocks are merged next.
-ghost use Rattle.std.specs.Prelude.{◌≡◌, ◌<◌, ◌≤◌, ◌*◌, ℕ, List, length, IsTrue, None, drop, nat_lt};
+ghost use Rattle.std.specs.Prelude.{◌≡◌, ◌<◌, ◌≤◌, ◌*◌, length, IsTrue, None, drop, nat_lt};
 ghost use Rattle.std.specs.List.{All};
 ghost use Rattle.std.specs.Option.{option_map};
 ghost use Rattle.arr_ops.specs.Formed.{all_pairs};
 ghost use Rattle.arr_ops.specs.Order.{In};
 ghost use Rattle.arr_greedy.specs.Bits.{AreBetween, bit, some_stands, words};
 ghost use Rattle.arr_greedy.specs.Fast.{amount, better, flag, found_below, may_beat, next_pair, saves_more};
-ghost use Rattle.arr_greedy.specs.Tables.{AreTold, Bounded, TellsWays, best_at, best_in_row, better_pair, merges};
+ghost use Rattle.arr_greedy.specs.Tables.{Bounded, IsBetter, SaysMerges, TellsWays, best_at, best_in_row};
 
 use crate::grid::words;
 
@@ -81,7 +81,7 @@ pub(crate) fn may_merge(
     requires fuses_size { length fuses.now ≡ width * width }
     requires reaches_size { length reaches.now ≡ width * words width }
     requires reached_size { length reached.now ≡ width * words width }
-    ensures { (keys : List ℕ) → AreTold reaches.now reached.now width keys left right → result ≡ merges fuses.now reaches.now width keys left right }
+    ensures { SaysMerges fuses.now reaches.now reached.now width left right result }
 {
     at(fuses, width, left, right) && !some_stands(reaches, reached, width, left, right)
 }
@@ -124,7 +124,7 @@ fn better_pair(
     requires reaches_size { length reaches.now ≡ width * words width }
     requires reached_size { length reached.now ≡ width * words width }
     requires saved_size { length saved.now ≡ width * width }
-    ensures best { (keys : List ℕ) → AreTold reaches.now reached.now width keys left right → result ≡ better_pair fuses.now reaches.now saved.now width keys found left right }
+    ensures best { IsBetter fuses.now reaches.now reached.now saved.now width found left right result }
     ensures below { IsTrue (found_below width result) }
 {
     if saves_more(saved, width, found, left, right)

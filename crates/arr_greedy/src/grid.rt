@@ -1,5 +1,5 @@
 //! Tables of flags as bits, some words a row.
-ghost use Rattle.std.specs.Prelude.{◌≡◌, ◌<◌, ◌*◌, ◌==◌, ◌||◌, ℕ, cond, length};
+ghost use Rattle.std.specs.Prelude.{◌≡◌, ◌<◌, ◌*◌, ◌==◌, ℕ, cond, length};
 ghost use Rattle.arr_cost.specs.Footprints.{has_bit};
 ghost use Rattle.arr_greedy.specs.Bits.{AreBits, bit, words};
 ghost use Rattle.arr_greedy.specs.Tables.{with_cell, with_joined};

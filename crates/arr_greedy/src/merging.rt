@@ -2,14 +2,14 @@
 ghost use Rattle.std.specs.Prelude.{◌≡◌, ◌<◌, ◌*◌, ◌+◌, ◌==◌, ◌||◌, ◌≢◌, ◌^◌, ◌++◌, ◌∷◌, [], cond, length, ℕ, IfOk, IsTrue, not, false, get_or, map};
 ghost use Rattle.std.specs.List.{All, filter, range_with_len};
 ghost use Rattle.arr_view.specs.Views.{has};
-ghost use Rattle.arr_ops.specs.Plans.{not_empty, numbered};
+ghost use Rattle.arr_ops.specs.Plans.{not_empty};
 ghost use Rattle.arr_ops.specs.Order.{In, least_of};
-ghost use Rattle.arr_heur.specs.Planners.{greedy_within, union};
+ghost use Rattle.arr_heur.specs.Planners.{greedy_within};
 ghost use Rattle.arr_greedy.specs.Bits.{bit, words};
 ghost use Rattle.arr_greedy.specs.Blocks.{row_at, Keyed};
 ghost use Rattle.arr_greedy.specs.Fast.{flag, fuses_after, Told};
 ghost use Rattle.arr_greedy.specs.Tables.{AreFlags, NoLoopsAfter, ReachesAfter, TellsWays};
-ghost use Rattle.arr_greedy.specs.Standing.{AllPriced, ArePriced, ArePrinted, IsPrinted, PricesStay, blocks_of, merged_at, rows_of, union_at};
+ghost use Rattle.arr_greedy.specs.Standing.{AllPriced, ArePriced, ArePrinted, IsPrinted, IsUnion, PricesStay, blocks_of, merged_at, rows_of, union_at};
 
 use crate::NoMemory;
 use crate::choice::next_pair;
@@ -32,7 +32,7 @@ impl Block {
     fn union(&self, alloc: Global, costs: &Costs, other: &Block) -> Result<Block, NoMemory>
         requires first { IsPrinted costs.now self.now }
         requires second { IsPrinted costs.now other.now }
-        ensures numbers { IfOk result (λ block. block.numbers.items ≡ union (numbered costs.now) self.now.numbers.items other.now.numbers.items) }
+        ensures numbers { IfOk result (λ both. IsUnion costs.now self.now other.now both) }
         ensures print { IfOk result (λ block. IsPrinted costs.now block) }
     {
         let numbers = union_of(

@@ -1,13 +1,13 @@
 //! What one block in place of two saves, for each two that may be merged, and the most that is saved in each row.
-ghost use Rattle.std.specs.Prelude.{◌≡◌, ◌<◌, ◌≤◌, ◌*◌, List, ℕ, IsTrue, length, None, get_or, nat_lt};
+ghost use Rattle.std.specs.Prelude.{◌≡◌, ◌<◌, ◌≤◌, ◌*◌, IsTrue, length, None, get_or, nat_lt};
 ghost use Rattle.std.specs.List.{All};
 ghost use Rattle.arr_ops.specs.Formed.{all_pairs};
 ghost use Rattle.arr_ops.specs.Order.{In};
 ghost use Rattle.arr_greedy.specs.Bits.{words};
 ghost use Rattle.arr_greedy.specs.Blocks.{Keyed};
 ghost use Rattle.arr_greedy.specs.Fast.{CoverStill, amount, covers};
-ghost use Rattle.arr_greedy.specs.Tables.{AreAmounts, AreTold, TellsWays, with_cell};
-ghost use Rattle.arr_greedy.specs.Standing.{AllPriced, ArePriced, ArePrinted, IsPriced, PricesStay, rows_of, saving_at};
+ghost use Rattle.arr_greedy.specs.Tables.{AreAmounts, TellsWays, with_cell};
+ghost use Rattle.arr_greedy.specs.Standing.{AllPriced, ArePriced, ArePrinted, IsPricedOf, PricesStay, rows_of, saving_at};
 
 use crate::choice::may_merge;
 use crate::merging::Block;
@@ -75,7 +75,7 @@ fn price_pair(
     requires bounds_size { length bounds.old ≡ width }
     ensures saved_size { length saved.new ≡ width * width }
     ensures bounds_size { length bounds.new ≡ width }
-    ensures priced { (keys : List ℕ) → AreTold reaches.now reached.now width keys left right → IsPriced costs.now blocks.now fuses.now reaches.now keys saved.new bounds.new width left right }
+    ensures priced { IsPricedOf costs.now blocks.now fuses.now reaches.now reached.now saved.new bounds.new width left right }
     ensures stays { PricesStay costs.now blocks.now fuses.now reaches.now saved.old bounds.old saved.new bounds.new width }
 {
     if !may_merge(fuses, reaches, reached, width, left, right) {

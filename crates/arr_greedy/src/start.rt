@@ -1,5 +1,5 @@
 //! What each block reaches at the start, and what reaches each.
-ghost use Rattle.std.specs.Prelude.{◌≡◌, ◌<◌, ◌≤◌, ◌+◌, ◌*◌, ◌||◌, length, ℕ, IfOk, false, nat_eq, nat_lt};
+ghost use Rattle.std.specs.Prelude.{◌≡◌, ◌<◌, ◌≤◌, ◌+◌, ◌*◌, length, ℕ, IfOk, false, nat_eq, nat_lt};
 ghost use Rattle.std.specs.List.{All};
 ghost use Rattle.arr_greedy.specs.Bits.{AreBits, bit, columns, words};
 ghost use Rattle.arr_greedy.specs.Start.{deps_at};
