@@ -35,16 +35,22 @@ row_in [] place l p i = absurd (omega arith)
 row_in (k ∷ ks) zero l p i = front_in (row_pairs k ks) (pairs ks) p i
 row_in (k ∷ ks) (suc place) l p i = back_in (row_pairs k ks) (pairs ks) p (row_in ks place (omega arith) p (subst (λ rest. In p (row_pairs (get_or ks place 0) rest)) (drop_next k ks place) i))
 
+-- a pair of a row: its first, and where its second is from
+pub of_row : (x : ℕ) (ys : List ℕ) (p : ℕ × ℕ) → In p (row_pairs x ys) → (p.0 ≡ x) × In p.1 ys
+of_row x ys p i =
+    let r = in_map (λ y. pair y) ys p i in
+    (ap (λ (q : ℕ × ℕ). q.0) r.2, subst (λ y. In y ys) (sym (ap (λ (q : ℕ × ℕ). q.1) r.2)) r.1)
+  where
+    pair : ℕ → ℕ × ℕ
+    pair y = (x, y)
+
 pub both_in : (keys : List ℕ) (p : ℕ × ℕ) → In p (pairs keys) → In p.0 keys × In p.1 keys
 both_in [] p i = absurd i
 both_in (k ∷ ks) p i =
     elim (in_append (row_pairs k ks) (pairs ks) p i) as (λ _. In p.0 (k ∷ ks) × In p.1 (k ∷ ks)) [
-      | inl j ↦ let r = in_map (λ y. pair k y) ks p j in (inl (ap (λ (q : ℕ × ℕ). q.0) r.2), inr (subst (λ y. In y ks) (sym (ap (λ (q : ℕ × ℕ). q.1) r.2)) r.1))
+      | inl j ↦ let r = of_row k ks p j in (inl r.0, inr r.1)
       | inr j ↦ let r = both_in ks p j in (inr r.0, inr r.1)
     ]
-  where
-    pair : ℕ → ℕ → ℕ × ℕ
-    pair x y = (x, y)
 
 abbrev pub Rising : List ℕ → Type 0
 Rising keys = Pairs (λ a b. nat_lt a b ≡ true) keys
@@ -67,30 +73,21 @@ in_row (k ∷ ks) h zero l p i e =
     ]
 in_row (k ∷ ks) h (suc place) l p i e =
     subst (λ rest. In p (row_pairs (get_or ks place 0) rest)) (sym (drop_next k ks place)) (elim (in_append (row_pairs k ks) (pairs ks) p i) as (λ _. In p (row_pairs (get_or ks place 0) (drop (place + 1) ks))) [
-      | inl j ↦
-          let r = in_map (λ y. pair k y) ks p j in
-          absurd (not_self k ks h (subst (λ x. In x ks) (sym e ∙ ap (λ (q : ℕ × ℕ). q.0) r.2) (at_in ks place (omega arith))))
+      | inl j ↦ absurd (not_self k ks h (subst (λ x. In x ks) (sym e ∙ (of_row k ks p j).0) (at_in ks place (omega arith))))
       | inr j ↦ in_row ks h.1 place (omega arith) p j e
     ])
-  where
-    pair : ℕ → ℕ → ℕ × ℕ
-    pair x y = (x, y)
 
 pub pair_rises : (keys : List ℕ) → Rising keys → (p : ℕ × ℕ) → In p (pairs keys) → p.0 < p.1
 pair_rises [] h p i = absurd i
 pair_rises (k ∷ ks) h p i =
     elim (in_append (row_pairs k ks) (pairs ks) p i) as (λ _. p.0 < p.1) [
       | inl j ↦
-          let r = in_map (λ y. pair k y) ks p j in
-          let a : p.0 ≡ k = ap (λ (q : ℕ × ℕ). q.0) r.2 in
-          let b : p.1 ≡ r.0 = ap (λ (q : ℕ × ℕ). q.1) r.2 in
-          let l : k < r.0 = ltb-true k r.0 (all_in (λ b. nat_lt k b ≡ true) ks h.0 r.0 r.1) in
+          let r = of_row k ks p j in
+          let a : p.0 ≡ k = r.0 in
+          let l : k < p.1 = ltb-true k p.1 (all_in (λ b. nat_lt k b ≡ true) ks h.0 p.1 r.1) in
           omega arith
       | inr j ↦ pair_rises ks h.1 p j
     ]
-  where
-    pair : ℕ → ℕ → ℕ × ℕ
-    pair x y = (x, y)
 
 pub in_index : (xs : List ℕ) (x : ℕ) → In x xs → (i : ℕ) × (i < length xs) × (get_or xs i 0 ≡ x)
 in_index [] x i = absurd i
@@ -118,20 +115,17 @@ pub record RowPlace (keys : List ℕ) (place : ℕ) (p : ℕ × ℕ) : Type 0 wh
 
 pub row_place : (keys : List ℕ) (place : ℕ) (p : ℕ × ℕ) → In p (row_pairs (get_or keys place 0) (drop (place + 1) keys)) → RowPlace keys place p
 row_place keys place p i =
-    let r = in_map (λ y. pair (get_or keys place 0) y) (drop (place + 1) keys) p i in
-    let n = in_index (drop (place + 1) keys) r.0 r.1 in
+    let r = of_row (get_or keys place 0) (drop (place + 1) keys) p i in
+    let n = in_index (drop (place + 1) keys) p.1 r.1 in
     let l : n.0 < length (drop (place + 1) keys) = n.1 in
     let long : length (drop (place + 1) keys) ≡ length keys - (place + 1) = length-drop (place + 1) keys in
     record {
       at = place + 1 + n.0;
       behind = omega arith;
       inside = omega arith;
-      first = ap (λ (q : ℕ × ℕ). q.0) r.2;
-      second = ap (λ (q : ℕ × ℕ). q.1) r.2 ∙ sym n.2 ∙ get_or-drop (place + 1) keys n.0 0;
+      first = r.0;
+      second = sym n.2 ∙ get_or-drop (place + 1) keys n.0 0;
     }
-  where
-    pair : ℕ → ℕ → ℕ × ℕ
-    pair x y = (x, y)
 
 -- ---- the heaviest of a row is its bound
 
@@ -187,14 +181,11 @@ row_beaten saved test found bounds keys place l e h =
     row : List (ℕ × ℕ)
     row = row_pairs left (drop (place + 1) keys)
 
-    pair : ℕ → ℕ × ℕ
-    pair y = (left, y)
-
     at : (o : Option (ℕ × ℕ)) → heaviest (λ (p : ℕ × ℕ). saved p.0 p.1) (filter test row) ≡ o → better (λ p. saved p.0 p.1) found o ≡ found
     at None f = better_none (λ p. saved p.0 p.1) found
     at (Some p) f =
         let r = in_filter test row p (heaviest_in (λ (p : ℕ × ℕ). saved p.0 p.1) (filter test row) p f) in
-        let first : p.0 ≡ left = ap (λ (q : ℕ × ℕ). q.0) (in_map pair (drop (place + 1) keys) p r.0).2 in
+        let first : p.0 ≡ left = (of_row left (drop (place + 1) keys) p r.0).0 in
         beaten saved found (get_or bounds left None) p e (subst (λ x. covers (get_or bounds x None) (saved p.0 p.1) ≡ true) first (h p (row_in keys place l p r.0) r.1))
 
 -- ---- a row with a new bound
