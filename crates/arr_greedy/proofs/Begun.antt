@@ -14,7 +14,7 @@ use Rattle.arr_ops.specs.Order.{leads}
 use Rattle.arr_ops.proofs.Pairs.{Pairs_both, Pairs_weaker}
 use Rattle.arr_ops.proofs.Legality.{Share, fusible_parts, fusible_whole}
 use Rattle.arr_deps.specs.Graph.{leads_to, op_at}
-use Rattle.arr_heur.specs.Planners.{saving, union}
+use Rattle.arr_heur.specs.Planners.{union}
 use Rattle.arr_heur.proofs.Merge.{has_union, union_has}
 use Rattle.arr_heur.proofs.OrderedBlocks.{Told, all_told, pairs_at, leads_is}
 use Rattle.arr_heur.proofs.Stretches.{range_more}
@@ -122,11 +122,11 @@ any_numbers f g (suc n) z h =
     last true = refl
     last false = refl
 
-pub started : (list : List Op) (w : ℕ) (F D R : ℕ → ℕ → Bool) (V : ℕ → ℕ → ℕ) → w ≡ length list + 1
+pub started : (list : List Op) (w : ℕ) (F D R : ℕ → ℕ → Bool) → w ≡ length list + 1
     → ((x y : ℕ) → x < w → y < w → F x y ≡ fuses_at list x y) → ((x y : ℕ) → x < w → y < w → D x y ≡ deps_at list x y)
-    → ((x y : ℕ) → x < w → y < w → R x y ≡ by_step D R w x y) → ((x y : ℕ) → 0 < x → x < y → y < w → V x y ≡ saving list (x ∷ [], y ∷ []))
-    → Started list F R V
-started list w F D R V e f d r v = record {
+    → ((x y : ℕ) → x < w → y < w → R x y ≡ by_step D R w x y)
+    → Started list F R
+started list w F D R e f d r = record {
   fused = λ i j li ui lj uj ne.
       f i j (omega arith) (omega arith) ∙ ap (λ b. b && fusible (op_at list (min i j)) (op_at list (max i j))) (two i j li lj ne) ∙ fuse_pair list i j li ui lj uj ne;
   filled = λ i j li ui lj uj.
@@ -136,7 +136,6 @@ started list w F D R V e f d r v = record {
       (ap (λ b. b && (0 == j || R 0 j)) (d i 0 (omega arith) (omega arith) ∙ no_zero i))
       (λ k lk uk. ap (λ b. b && (k == j || R k j)) (d i k (omega arith) (omega arith) ∙ dep_pair list i k li ui lk uk))
       ∙ ap (list_any (λ k. leads (numbered list) (i ∷ []) (k ∷ []) && (k == j || R k j))) (sym (numbers_are list));
-  saves = λ i j li lt uj. v i j li lt (omega arith);
 }
   where
     no_zero : (i : ℕ) → deps_at list i 0 ≡ false

@@ -5,7 +5,6 @@ use Rattle.std.proofs.lemmas.List.{get_or-set_same, get_or-set_other}
 use Rattle.std.proofs.lemmas.Nat.{mul-add-lt, same_from_place}
 use Rattle.std.specs.Prelude.{◌==◌, nat_lt}
 use Rattle.arr_greedy.specs.Fast.{flag, amount}
-use Rattle.arr_greedy.specs.Ways.{reach_after}
 
 pub flag_set : (rows : List Bool) (w row column : ℕ) (v : Bool) → length rows ≡ w * w → row < w → column < w → (x y : ℕ) → x < w → y < w
     → flag (set rows (row * w + column) v) w x y ≡ cond (x == row && y == column) v (flag rows w x y)
@@ -94,35 +93,3 @@ column_step o l n w left right i v im lm rm inv e put x y xm ym =
     whole true true q = refl
     whole true false q = refl
     whole false p q = refl
-
-pub reach_step : (o l n : ℕ → ℕ → Bool) (w left right row i : ℕ) (v reaches : Bool) → i < w → left < w → right < w → row < w → row ≢ left → row ≢ right
-    → ((x y : ℕ) → x < w → y < w → l x y ≡ cond (x == row && nat_lt y i) (reach_after (λ k. k) o left right x y) (o x y))
-    → reaches ≡ (o row left || o row right)
-    → v ≡ cond (i == left) reaches (l row i || (reaches && (l left i || l right i)))
-    → ((x y : ℕ) → x < w → y < w → n x y ≡ cond (x == row && y == i) v (l x y))
-    → (x y : ℕ) → x < w → y < w → n x y ≡ cond (x == row && nat_lt y (i + 1)) (reach_after (λ k. k) o left right x y) (o x y)
-reach_step o l n w left right row i v reaches im lm rm wm nl nr inv er e put x y xm ym =
-    elim (cases_eq x row) as (λ _. n x y ≡ cond (x == row && nat_lt y (i + 1)) (reach_after (λ k. k) o left right x y) (o x y)) [
-      | inl f ↦ elim (cases_eq y i) as (λ _. n x y ≡ cond (x == row && nat_lt y (i + 1)) (reach_after (λ k. k) o left right x y) (o x y)) [
-        | inl g ↦
-            put x y xm ym ∙ ap₂ (λ s t. cond (s && t) v (l x y)) (eq-eqb x row f) (eq-eqb y i g) ∙ e
-            ∙ ap₂ (λ p q. cond (i == left) reaches (p || (reaches && q))) here (ap₂ (λ p q. p || q) (there left lm (λ k. nl (sym k))) (there right rm (λ k. nr (sym k))))
-            ∙ ap (λ r. cond (i == left) r (o row i || (r && (o left i || o right i)))) er
-            ∙ sym (ap (λ t. cond t (cond (i == left) false (o left i || o right i)) (cond (i == left) (o row left || o row right) (o row i || ((o row left || o row right) && (o left i || o right i))))) (ne_eqb row left nl))
-            ∙ sym (ap₂ (λ a b. cond (a == row && nat_lt b (i + 1)) (reach_after (λ k. k) o left right a b) (o a b)) f g
-            ∙ ap₂ (λ s t. cond (s && t) (reach_after (λ k. k) o left right row i) (o row i)) (eq-eqb row row refl) (less_next i))
-        | inr g ↦
-            put x y xm ym ∙ ap₂ (λ s t. cond (s && t) v (l x y)) (eq-eqb x row f) (ne_eqb y i g) ∙ inv x y xm ym
-            ∙ ap (λ t. cond (x == row && t) (reach_after (λ k. k) o left right x y) (o x y)) (sym (less_more y i g))
-      ]
-      | inr f ↦
-          put x y xm ym ∙ ap (λ s. cond (s && (y == i)) v (l x y)) (ne_eqb x row f) ∙ inv x y xm ym
-          ∙ ap (λ t. cond (t && nat_lt y i) (reach_after (λ k. k) o left right x y) (o x y)) (ne_eqb x row f)
-          ∙ sym (ap (λ t. cond (t && nat_lt y (i + 1)) (reach_after (λ k. k) o left right x y) (o x y)) (ne_eqb x row f))
-    ]
-  where
-    here : l row i ≡ o row i
-    here = inv row i wm im ∙ ap (λ t. cond t (reach_after (λ k. k) o left right row i) (o row i)) (ap (λ t. (row == row) && t) (less_self i) ∙ and_not (row == row))
-
-    there : (k : ℕ) → k < w → k ≢ row → l k i ≡ o k i
-    there k m h = inv k i m im ∙ ap (λ t. cond (t && nat_lt i i) (reach_after (λ k. k) o left right k i) (o k i)) (ne_eqb k row h)

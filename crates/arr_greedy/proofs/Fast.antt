@@ -16,8 +16,8 @@ use Rattle.arr_heur.specs.Planners.{numbers, union, merge, pairs, saving, heavie
 use Rattle.arr_ops.specs.Order.{In}
 use Rattle.arr_greedy.specs.Ways.{lies_between, reach_after}
 use Rattle.arr_greedy.specs.Reach.{TellsReach}
-use Rattle.arr_greedy.specs.Fast.{may_merge, next_pair, fuses_after}
-use Rattle.arr_ops.proofs.Members.{all_in, in_all, in_filter, in_append, Apart}
+use Rattle.arr_greedy.specs.Fast.{block_at, may_merge, next_pair, fuses_after}
+use Rattle.arr_ops.proofs.Members.{all_in, in_all, in_filter, in_append, Apart, Distinct}
 use Rattle.arr_ops.proofs.Legality.{IsPartition, Share, fusible_parts, fusible_whole, distinct_of}
 use Rattle.arr_heur.proofs.Merge.{in_map, has_filter, union_has, merge_partition}
 use Rattle.arr_heur.proofs.Merged.{heaviest_in}
@@ -90,13 +90,28 @@ pairs_map {X} {Y} f (x ∷ xs) =
 abbrev pub one_block : List Op → List ℕ → Bool
 one_block list block = all_pairs fusible (ops_of (numbered list) block)
 
-pub record Kept (list : List Op) (blocks : List (List ℕ)) (fuses reaches : ℕ → ℕ → Bool) (saved : ℕ → ℕ → ℕ) : Type 0 where
+pub record Kept (list : List Op) (blocks : List (List ℕ)) (fuses reaches : ℕ → ℕ → Bool) : Type 0 where
   pub partition : IsPartition (length list) blocks
   pub orderable : is_orderable list blocks ≡ true
   pub rising : Pairs (λ a b. least_of a < least_of b) blocks
   pub fused : (a b : List ℕ) → In a blocks → In b blocks → Apart a b → fuses (least_of a) (least_of b) ≡ one_block list (union (numbered list) a b)
   pub reached : TellsReach list blocks (λ a b. reaches (least_of a) (least_of b))
-  pub saves : (a b : List ℕ) → In a blocks → In b blocks → least_of a < least_of b → saved (least_of a) (least_of b) ≡ saving list (a, b)
+
+-- the savings of those that may be merged
+abbrev pub Saves : List Op → List (List ℕ) → (ℕ → ℕ → Bool) → (ℕ → ℕ → Bool) → (ℕ → ℕ → ℕ) → Type 0
+Saves list blocks fuses reaches saved =
+    (p : ℕ × ℕ) → In p (pairs (map least_of blocks)) → may_merge fuses reaches (map least_of blocks) p ≡ true → saved p.0 p.1 ≡ saving list (block_at p.0 blocks, block_at p.1 blocks)
+
+pub block_found : (blocks : List (List ℕ)) → Distinct blocks → (b : List ℕ) → In b blocks → (k : ℕ) → least_of b ≡ k → block_at k blocks ≡ b
+block_found [] d b i k e = absurd i
+block_found (c ∷ cs) d b (inl f) k e = ap (λ t. cond t c (block_at k cs)) (eq-eqb (least_of c) k (ap least_of (sym f) ∙ e)) ∙ sym f
+block_found (c ∷ cs) d b (inr i) k e =
+    ap (λ t. cond t c (block_at k cs)) (ne_eqb (least_of c) k (λ f. all_in (Apart c) cs d.0 b i (f ∙ sym e))) ∙ block_found cs d.1 b i k e
+
+pub map_in : {X Y : Type 0} (f : X → Y) (xs : List X) (x : X) → In x xs → In (f x) (map f xs)
+map_in f [] x i = absurd i
+map_in f (y ∷ ys) x (inl e) = inl (ap f e)
+map_in f (y ∷ ys) x (inr i) = inr (map_in f ys x i)
 
 rising_pair : (blocks : List (List ℕ)) → Pairs (λ a b. least_of a < least_of b) blocks → (p : List ℕ × List ℕ) → In p (pairs blocks) → In p.0 blocks × In p.1 blocks × (least_of p.0 < least_of p.1)
 rising_pair [] d p i = absurd i
@@ -114,23 +129,29 @@ rising_pair (a ∷ bs) d p i =
     pair : List ℕ → List ℕ → List ℕ × List ℕ
     pair a b = (a, b)
 
-pub chosen : (list : List Op) (blocks : List (List ℕ)) (fuses reaches : ℕ → ℕ → Bool) (saved : ℕ → ℕ → ℕ) → Kept list blocks fuses reaches saved
+may_is : (list : List Op) (blocks : List (List ℕ)) (fuses reaches : ℕ → ℕ → Bool) → Kept list blocks fuses reaches → (p : List ℕ × List ℕ) → In p (pairs blocks)
+    → may_merge fuses reaches (map least_of blocks) (least_of p.0, least_of p.1) ≡ is_orderable list (merge (numbered list) p.0 p.1 blocks)
+may_is list blocks fuses reaches k p i =
+    let r = rising_pair blocks k.rising p i in
+    let l : least_of p.0 < least_of p.1 = r.2 in
+    ap₂ (λ s t. s && not t) (k.fused p.0 p.1 r.0 r.1 (λ e. absurd (omega arith))) (any_map least_of (lies_between (λ k. k) reaches (least_of p.0) (least_of p.1)) blocks)
+    ∙ sym (merges_good list blocks (λ a b. reaches (least_of a) (least_of b)) p.0 p.1 k.partition k.orderable k.reached r.0 r.1 l)
+
+pub chosen : (list : List Op) (blocks : List (List ℕ)) (fuses reaches : ℕ → ℕ → Bool) (saved : ℕ → ℕ → ℕ) → Kept list blocks fuses reaches → Saves list blocks fuses reaches saved
     → next_pair fuses reaches saved (map least_of blocks) ≡ option_map (both_of least_of) (heaviest (saving list) (mergeable list blocks))
-chosen list blocks fuses reaches saved k =
+chosen list blocks fuses reaches saved k saves =
     let keys : List ℕ = map least_of blocks in
+    let d : Distinct blocks = distinct_of (length list) blocks k.partition in
     ap (λ l. heaviest (λ p. saved p.0 p.1) (filter (may_merge fuses reaches keys) l)) (pairs_map least_of blocks)
     ∙ ap (heaviest (λ p. saved p.0 p.1)) (filter_map_comm (both_of least_of) (may_merge fuses reaches keys) (pairs blocks))
     ∙ heaviest_map (both_of least_of) (λ p. saved p.0 p.1) (filter (λ p. may_merge fuses reaches keys (both_of least_of p)) (pairs blocks))
     ∙ ap (λ l. option_map (both_of least_of) (heaviest (λ p. saved (least_of p.0) (least_of p.1)) l))
-    (filter_same (λ p. may_merge fuses reaches keys (both_of least_of p)) (λ (p : List ℕ × List ℕ). is_orderable list (merge (numbered list) p.0 p.1 blocks)) (pairs blocks) (λ p i.
-    let r = rising_pair blocks k.rising p i in
-    let l : least_of p.0 < least_of p.1 = r.2 in
-    ap₂ (λ s t. s && not t) (k.fused p.0 p.1 r.0 r.1 (λ e. absurd (omega arith))) (any_map least_of (lies_between (λ k. k) reaches (least_of p.0) (least_of p.1)) blocks)
-    ∙ sym (merges_good list blocks (λ a b. reaches (least_of a) (least_of b)) p.0 p.1 k.partition k.orderable k.reached r.0 r.1 l)))
+    (filter_same (λ p. may_merge fuses reaches keys (both_of least_of p)) (λ (p : List ℕ × List ℕ). is_orderable list (merge (numbered list) p.0 p.1 blocks)) (pairs blocks) (may_is list blocks fuses reaches k))
     ∙ ap (option_map (both_of least_of)) (heaviest_same (λ p. saved (least_of p.0) (least_of p.1)) (saving list) (mergeable list blocks) (λ p i.
     let q = in_filter (λ (p : List ℕ × List ℕ). is_orderable list (merge (numbered list) p.0 p.1 blocks)) (pairs blocks) p i in
     let r = rising_pair blocks k.rising p q.0 in
-    k.saves p.0 p.1 r.0 r.1 r.2))
+    saves (both_of least_of p) (subst (In (both_of least_of p)) (sym (pairs_map least_of blocks)) (map_in (both_of least_of) (pairs blocks) p q.0)) (may_is list blocks fuses reaches k p q.0 ∙ q.1)
+    ∙ ap₂ (λ a b. saving list (a, b)) (block_found blocks d p.0 r.0 (least_of p.0) refl) (block_found blocks d p.1 r.1 (least_of p.1) refl)))
 
 -- ---- after a merge
 
@@ -221,11 +242,10 @@ below_map f (c ∷ cs) h r = (
   below_map f cs h r.1,
 )
 
-pub kept_after : (list : List Op) (blocks : List (List ℕ)) (fuses reaches : ℕ → ℕ → Bool) (saved : ℕ → ℕ → ℕ) → Kept list blocks fuses reaches saved → (a b : List ℕ) → In a blocks → In b blocks → least_of a < least_of b
-    → is_orderable list (merge (numbered list) a b blocks) ≡ true → (after : ℕ → ℕ → ℕ)
-    → ((c d : List ℕ) → In c (merge (numbered list) a b blocks) → In d (merge (numbered list) a b blocks) → least_of c < least_of d → after (least_of c) (least_of d) ≡ saving list (c, d))
-    → Kept list (merge (numbered list) a b blocks) (fuses_after fuses (least_of a) (least_of b)) (reach_after (λ k. k) reaches (least_of a) (least_of b)) after
-kept_after list blocks fuses reaches saved k a b m n l e after saves =
+pub kept_after : (list : List Op) (blocks : List (List ℕ)) (fuses reaches : ℕ → ℕ → Bool) → Kept list blocks fuses reaches → (a b : List ℕ) → In a blocks → In b blocks → least_of a < least_of b
+    → is_orderable list (merge (numbered list) a b blocks) ≡ true
+    → Kept list (merge (numbered list) a b blocks) (fuses_after fuses (least_of a) (least_of b)) (reach_after (λ k. k) reaches (least_of a) (least_of b))
+kept_after list blocks fuses reaches k a b m n l e =
     let xs : List (ℕ × Op) = numbered list in
     let u : List ℕ = union xs a b in
     let apart : Apart a b = λ f. absurd (omega arith) in
@@ -243,7 +263,6 @@ kept_after list blocks fuses reaches saved k a b m n l e after saves =
           (pairs_filter (λ a b. least_of a < least_of b) (λ c. not (same_block c b)) blocks k.rising);
       fused = λ c g i h ne. fused_at both same (after_in xs blocks a b d m n apart c i) (after_in xs blocks a b d m n apart g h) ne;
       reached = reach_good list blocks (λ a b. reaches (least_of a) (least_of b)) a b k.partition k.orderable k.reached m n l e;
-      saves = saves;
     }
   where
     named : (t : Bool) (u c : List ℕ) → (t ≡ true → least_of u ≡ least_of c) → t ≡ t → least_of (cond t u c) ≡ least_of c
@@ -293,10 +312,10 @@ pub record Turn (list : List Op) (blocks : List (List ℕ)) (x y : ℕ) : Type 0
   pub orderable : is_orderable list (merge (numbered list) left right blocks) ≡ true
   pub goes_on : (n : ℕ) → greedy_within (suc n) list blocks ≡ greedy_within n list (merge (numbered list) left right blocks)
 
-pub turn : (list : List Op) (blocks : List (List ℕ)) (fuses reaches : ℕ → ℕ → Bool) (saved : ℕ → ℕ → ℕ) → Kept list blocks fuses reaches saved
+pub turn : (list : List Op) (blocks : List (List ℕ)) (fuses reaches : ℕ → ℕ → Bool) (saved : ℕ → ℕ → ℕ) → Kept list blocks fuses reaches → Saves list blocks fuses reaches saved
     → (x y : ℕ) → next_pair fuses reaches saved (map least_of blocks) ≡ Some (x, y) → Turn list blocks x y
 unfolding pair_or
-turn list blocks fuses reaches saved k x y e =
+turn list blocks fuses reaches saved k saves x y e =
     elim (heaviest (saving list) (mergeable list blocks)) as (λ o. heaviest (saving list) (mergeable list blocks) ≡ o → option_map (both_of least_of) o ≡ Some (x, y) → Turn list blocks x y) [
       | None ↦ λ f g. absurd (false≢true (ap is_some g))
       | Some p ↦ λ f g.
@@ -314,13 +333,13 @@ turn list blocks fuses reaches saved k x y e =
             orderable = q.1;
             goes_on = λ n. ap (λ o. elim o as (λ _. List (List ℕ)) [ None ↦ blocks | Some p ↦ greedy_within n list (merge (numbered list) p.0 p.1 blocks) ]) f;
           }
-    ] refl (sym (chosen list blocks fuses reaches saved k) ∙ e)
+    ] refl (sym (chosen list blocks fuses reaches saved k saves) ∙ e)
 
-pub no_turn : (list : List Op) (blocks : List (List ℕ)) (fuses reaches : ℕ → ℕ → Bool) (saved : ℕ → ℕ → ℕ) → Kept list blocks fuses reaches saved
+pub no_turn : (list : List Op) (blocks : List (List ℕ)) (fuses reaches : ℕ → ℕ → Bool) (saved : ℕ → ℕ → ℕ) → Kept list blocks fuses reaches → Saves list blocks fuses reaches saved
     → next_pair fuses reaches saved (map least_of blocks) ≡ None → (n : ℕ) → greedy_within n list blocks ≡ blocks
-no_turn list blocks fuses reaches saved k e zero = refl
-no_turn list blocks fuses reaches saved k e (suc n) =
+no_turn list blocks fuses reaches saved k saves e zero = refl
+no_turn list blocks fuses reaches saved k saves e (suc n) =
     elim (heaviest (saving list) (mergeable list blocks)) as (λ o. option_map (both_of least_of) o ≡ None → elim o as (λ _. List (List ℕ)) [ None ↦ blocks | Some p ↦ greedy_within n list (merge (numbered list) p.0 p.1 blocks) ] ≡ blocks) [
       | None ↦ λ g. refl
       | Some p ↦ λ g. absurd (false≢true (ap is_some (sym g)))
-    ] (sym (chosen list blocks fuses reaches saved k) ∙ e)
+    ] (sym (chosen list blocks fuses reaches saved k saves) ∙ e)

@@ -1,11 +1,12 @@
 -- Greedy's blocks at the beginning and at the end.
-use Rattle.std.proofs.Common.{◌≡◌, ℕ, zero, suc, ◌+◌, ◌<◌, ◌≤◌, List, [], ◌∷◌, ◌++◌, Bool, true, false, cond, not, ◌&&◌, ◌||◌, Some, None, length, map, get_or, replicate, inl, inr, refl, ap, ap₂, sym, ◌∙◌, arith}
-use Rattle.std.specs.Prelude.{nat_eq}
-use Rattle.std.specs.List.{All, filter, range_with_len}
+use Rattle.std.proofs.Common.{◌≡◌, ℕ, zero, suc, ◌+◌, ◌<◌, ◌≤◌, List, [], ◌∷◌, ◌++◌, Bool, true, false, cond, not, ◌&&◌, ◌||◌, Some, None, length, map, get_or, replicate, inl, inr, refl, ap, ap₂, sym, subst, ◌∙◌, arith}
+use Rattle.std.specs.Prelude.{nat_eq, nat_lt}
+use Rattle.std.specs.List.{All, filter, list_all, range_with_len}
 use Rattle.std.proofs.lemmas.Bool.{lt-ltb, eq-eqb, false≢true}
 use Rattle.std.proofs.lemmas.List.Elements.{All-from_recursion}
 use Rattle.arr_view.specs.Views.{has}
 use Rattle.arr_ops.specs.declared.op.Op.{Op}
+use Rattle.arr_ops.specs.Formed.{all_pairs}
 use Rattle.arr_ops.specs.Plans.{ascends, not_empty, numbered}
 use Rattle.arr_ops.specs.Order.{In, least_of, same_block}
 use Rattle.arr_ops.proofs.Members.{in_all, in_filter}
@@ -14,9 +15,17 @@ use Rattle.arr_heur.specs.Planners.{greedy_blocks, greedy_within, heaviest, merg
 use Rattle.arr_heur.proofs.Merge.{in_map}
 use Rattle.arr_heur.proofs.Merged.{greedy_blocks_good, in_singles}
 use Rattle.arr_heur.proofs.Stretches.{range_more}
+use Rattle.arr_greedy.specs.declared.merging.Block.{Block}
+use Rattle.arr_greedy.specs.Bits.{AreBits, bit, columns}
+use Rattle.arr_greedy.specs.Fast.{Told, by_step, flag}
+use Rattle.arr_greedy.specs.Standing.{blocks_of, rows_of}
+use Rattle.arr_greedy.specs.Start.{deps_at, fuses_at}
+use Rattle.arr_greedy.specs.Tables.{AreFlags, TellsWays}
+use Rattle.arr_greedy.proofs.Begun.{started}
+use Rattle.arr_greedy.proofs.Between.{ways_start}
+use Rattle.arr_greedy.proofs.Opening.{keys_start, told_start}
 use Rattle.arr_greedy.specs.Blocks.{live, row_at, Keyed}
-use Rattle.arr_greedy.specs.Fast.{block_at}
-use Rattle.arr_greedy.proofs.KeyedBlocks.{block_live, numbers_are}
+use Rattle.arr_greedy.proofs.KeyedBlocks.{numbers_are}
 
 abbrev pub single : ℕ → List ℕ
 single i = i ∷ []
@@ -56,6 +65,15 @@ live_more (s ∷ rows) r = elim (not_empty s) as (λ b. cond b (s ∷ live (rows
   | true ↦ ap (λ l. s ∷ l) (live_more rows r)
   | false ↦ live_more rows r
 ]
+
+-- the numbers from 1 on rise
+pub range_rises : (a n : ℕ) → all_pairs nat_lt (range_with_len a n) ≡ true
+range_rises a zero = refl
+range_rises a (suc n) = ap₂ (λ s t. s && t) (behind a (a + 1) n (omega arith)) (range_rises (a + 1) n)
+  where
+    behind : (a b n : ℕ) → a < b → list_all (nat_lt a) (range_with_len b n) ≡ true
+    behind a b zero l = refl
+    behind a b (suc n) l = ap₂ (λ s t. s && t) (lt-ltb a b l) (behind a (b + 1) n (omega arith))
 
 pub clear_flag : (n i : ℕ) → get_or (replicate n false) i false ≡ false
 clear_flag zero i = refl
@@ -135,14 +153,22 @@ begun_long n = from 1 n
     from : (a n : ℕ) → suc (length (map single (range_with_len a n))) ≡ n + 1
     from a n = ap suc (long a n) ∙ (let e : suc n ≡ n + 1 = omega arith in e)
 
--- the blocks at the beginning, by their numbers
-pub begun_at : (n x : ℕ) → 0 < x → x < n + 1 → block_at x (live ([] ∷ map single (range_with_len 1 n))) ≡ single x
-begun_at n zero l m = absurd (omega arith)
-begun_at n (suc k) l m =
-    block_live ([] ∷ map single (range_with_len 1 n)) (suc k) (begun_keyed n) (let e : length ([] ∷ map single (range_with_len 1 n)) ≡ n + 1 = begun_long n in omega arith)
-    ∙ from 1 n k (omega arith) ∙ ap single (let e : 1 + k ≡ suc k = omega arith in e)
-  where
-    from : (a n k : ℕ) → k < n → get_or (map single (range_with_len a n)) k [] ≡ single (a + k)
-    from a zero k l = absurd (omega arith)
-    from a (suc n) zero l = ap single (let e : a ≡ a + 0 = omega arith in e)
-    from a (suc n) (suc k) l = from (a + 1) n k (omega arith) ∙ ap single (let e : a + 1 + k ≡ a + suc k = omega arith in e)
+pub begun_blocks : (list : List Op) (n : ℕ) (blocks : List Block) → n ≡ length list → rows_of blocks ≡ [] ∷ map single (range_with_len 1 n) → blocks_of blocks ≡ singles (numbered list)
+begun_blocks list n blocks count e = ap live e ∙ ap (λ n. live ([] ∷ map single (range_with_len 1 n))) count ∙ begun_live list
+
+pub begun_keys : (list : List Op) (n : ℕ) (blocks : List Block) (keys : List ℕ) → n ≡ length list → rows_of blocks ≡ [] ∷ map single (range_with_len 1 n) → keys ≡ range_with_len 1 n → keys ≡ map least_of (blocks_of blocks)
+begun_keys list n blocks keys count e k = k ∙ ap (range_with_len 1) count ∙ sym (numbers_are list) ∙ keys_start (numbered list) ∙ ap (map least_of) (sym (begun_blocks list n blocks count e))
+
+-- what the tables tell at the beginning
+pub begun_told : (list : List Op) (w n : ℕ) (blocks : List Block) (fuses : List Bool) (reaches : List ℕ) → n ≡ length list → w ≡ n + 1 → rows_of blocks ≡ [] ∷ map single (range_with_len 1 n)
+    → AreFlags fuses w (fuses_at list) → AreBits reaches w (by_step (deps_at list) (bit reaches w) w) → Told list (blocks_of blocks) (flag fuses w) (bit reaches w)
+begun_told list w n blocks fuses reaches count wide e f r =
+    subst (λ bs. Told list bs (flag fuses w) (bit reaches w)) (sym (begun_blocks list n blocks count e))
+    (told_start list (flag fuses w) (bit reaches w) (started list w (flag fuses w) (deps_at list) (bit reaches w) (omega arith) f (λ x y xm ym. refl) (λ x y xm ym. r x y xm (omega arith))))
+
+pub begun_ways : (list : List Op) (w n : ℕ) (blocks : List Block) (fuses : List Bool) (keys reaches reached : List ℕ) → n ≡ length list → w ≡ n + 1 → rows_of blocks ≡ [] ∷ map single (range_with_len 1 n)
+    → AreFlags fuses w (fuses_at list) → AreBits reaches w (by_step (deps_at list) (bit reaches w) w)
+    → keys ≡ range_with_len 1 n → All (λ k. k < w) keys
+    → ((z : ℕ) → z < columns w → bit reached w 0 z ≡ has keys z) → ((x y : ℕ) → x < w → 0 < y → y < w → bit reached w y x ≡ bit reaches w x y) → TellsWays keys reaches reached w
+begun_ways list w n blocks fuses keys reaches reached count wide e f r k inside live turned =
+    ways_start list (blocks_of blocks) (flag fuses w) keys reaches reached w (begun_told list w n blocks fuses reaches count wide e f r) (begun_keys list n blocks keys count e k) inside live turned

@@ -2,8 +2,12 @@ mod Ways
 mod BlockMerges
 mod Fast
 mod Scan
+mod Bounds
 mod Cells
+mod Bits
 mod Turns
+mod Between
+mod Carried
 mod Opening
 mod Filling
 mod KeyedBlocks

@@ -10,7 +10,7 @@ use Rattle.arr_ops.specs.Formed.{all_pairs}
 use Rattle.arr_ops.proofs.Pairs.{Pairs}
 use Rattle.arr_ops.proofs.Tests.{test_all}
 use Rattle.arr_ops.specs.Order.{least_of, leads}
-use Rattle.arr_heur.specs.Planners.{numbers, singles, union, saving}
+use Rattle.arr_heur.specs.Planners.{numbers, singles, union}
 use Rattle.arr_greedy.specs.Fast.{Told, Started}
 use Rattle.arr_ops.specs.Order.{In}
 use Rattle.arr_greedy.specs.Ways.{Leads, Way, Reaches}
@@ -120,8 +120,8 @@ rising_singles (x ∷ xs) h = (
   rising_singles xs h.1,
 )
 
-pub told_start : (list : List Op) (f r : ℕ → ℕ → Bool) (v : ℕ → ℕ → ℕ) → Started list f r v → Told list (singles (numbered list)) f r v
-told_start list f r v s =
+pub told_start : (list : List Op) (f r : ℕ → ℕ → Bool) → Started list f r → Told list (singles (numbered list)) f r
+told_start list f r s =
     record {
       partition = partition_tested list (singles (numbered list)) (singles_partition list);
       orderable = singles_orderable list;
@@ -130,9 +130,6 @@ told_start list f r v s =
           let p = single_is list a m in let q = single_is list b n in
           s.fused (least_of a) (least_of b) p.1 p.2 q.1 q.2 ne ∙ ap₂ (λ c d. all_pairs fusible (ops_of (numbered list) (union (numbered list) c d))) (sym p.0) (sym q.0);
       reached = start_reach list r s.filled;
-      saves = λ a b m n l.
-          let p = single_is list a m in let q = single_is list b n in
-          s.saves (least_of a) (least_of b) p.1 l q.2 ∙ ap₂ (λ c d. saving list (c, d)) (sym p.0) (sym q.0);
     }
 
 pub keys_start : (xs : List (ℕ × Op)) → numbers xs ≡ map least_of (singles xs)

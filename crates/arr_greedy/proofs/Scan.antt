@@ -36,12 +36,9 @@ better_joins w (Some x) (Some y) None = none (nat_lt (w x) (w y))
     none false = refl
 better_joins w (Some x) (Some y) (Some z) = three w x y z (nat_lt (w x) (w y)) (nat_lt (w y) (w z)) refl refl
 
-better_none : {X : Type 0} (w : X → ℕ) (o : Option X) → better w o None ≡ o
+pub better_none : {X : Type 0} (w : X → ℕ) (o : Option X) → better w o None ≡ o
 better_none w None = refl
 better_none w (Some x) = refl
-
-pub best_end : {X : Type 0} (w : X → ℕ) (test : X → Bool) (o : Option X) → best_after w test o [] ≡ o
-best_end w test o = better_none w o
 
 pub best_both : {X : Type 0} (w : X → ℕ) (test : X → Bool) (o : Option X) (xs ys : List X) → best_after w test o (xs ++ ys) ≡ best_after w test (best_after w test o xs) ys
 best_both w test o [] ys = ap (λ k. better w k (heaviest w (filter test ys))) (sym (better_none w o))

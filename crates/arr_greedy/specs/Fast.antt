@@ -8,7 +8,7 @@ use Rattle.arr_ops.specs.Plans.{numbered, ops_of}
 use Rattle.arr_ops.specs.Order.{least_of, leads, is_orderable}
 use Rattle.arr_ops.specs.Order.{is_partition}
 use Rattle.arr_greedy.specs.Reach.{TellsReach}
-use Rattle.arr_heur.specs.Planners.{heaviest, pairs, numbers, union, saving}
+use Rattle.arr_heur.specs.Planners.{heaviest, pairs, numbers, union}
 use Rattle.arr_ops.specs.Order.{In}
 use Rattle.arr_greedy.specs.Ways.{lies_between}
 
@@ -52,6 +52,21 @@ abbrev pub saves_more : (ℕ → ℕ → ℕ) → Option (ℕ × ℕ) → ℕ �
 saves_more saved None x y = true
 saves_more saved (Some p) x y = nat_lt (saved p.0 p.1) (saved x y)
 
+-- a row's bound is no less than a saving; where there is none, no pair of the row may be merged
+abbrev pub covers : Option ℕ → ℕ → Bool
+covers None s = false
+covers (Some most) s = not (nat_lt most s)
+
+-- what the bounds of rows are no less than stays so
+abbrev pub CoverStill : List (Option ℕ) → List (Option ℕ) → Type 0
+CoverStill old new = (x s : ℕ) → covers (get_or old x None) s ≡ true → covers (get_or new x None) s ≡ true
+
+-- a pair of a row with a bound may save more than one that was found
+abbrev pub may_beat : (ℕ → ℕ → ℕ) → Option (ℕ × ℕ) → Option ℕ → Bool
+may_beat saved found None = false
+may_beat saved None (Some most) = true
+may_beat saved (Some p) (Some most) = nat_lt (saved p.0 p.1) most
+
 -- one with each
 abbrev pub row_pairs : ℕ → List ℕ → List (ℕ × ℕ)
 row_pairs x ys = map (λ y. (x, y)) ys
@@ -61,23 +76,20 @@ abbrev pub block_at : ℕ → List (List ℕ) → List ℕ
 block_at k [] = []
 block_at k (b ∷ bs) = cond (least_of b == k) b (block_at k bs)
 
--- what rows tell of a partition whose blocks stand by their least numbers: which two may be one block, what reaches what, and what one
--- block in place of two saves
-pub record Told (list : List Op) (blocks : List (List ℕ)) (fuses reaches : ℕ → ℕ → Bool) (saved : ℕ → ℕ → ℕ) : Type 0 where
+-- what rows tell of a partition whose blocks stand by their least numbers: which two may be one block, and what reaches what
+pub record Told (list : List Op) (blocks : List (List ℕ)) (fuses reaches : ℕ → ℕ → Bool) : Type 0 where
   pub partition : IsTrue (is_partition list blocks)
   pub orderable : IsTrue (is_orderable list blocks)
   pub rising : IsTrue (all_pairs (λ a b. nat_lt (least_of a) (least_of b)) blocks)
   pub fused : (a b : List ℕ) → In a blocks → In b blocks → (least_of a ≡ least_of b → ⊥) → fuses (least_of a) (least_of b) ≡ all_pairs fusible (ops_of (numbered list) (union (numbered list) a b))
   pub reached : TellsReach list blocks (λ a b. reaches (least_of a) (least_of b))
-  pub saves : (a b : List ℕ) → In a blocks → In b blocks → least_of a < least_of b → saved (least_of a) (least_of b) ≡ saving list (a, b)
 
 -- the same rows at the start, one block an operation: a row has those that it leads, and what they reach
-pub record Started (list : List Op) (fuses reaches : ℕ → ℕ → Bool) (saved : ℕ → ℕ → ℕ) : Type 0 where
+pub record Started (list : List Op) (fuses reaches : ℕ → ℕ → Bool) : Type 0 where
   pub fused : (i j : ℕ) → 0 < i → i ≤ length list → 0 < j → j ≤ length list → (i ≡ j → ⊥) → fuses i j ≡ all_pairs fusible (ops_of (numbered list) (union (numbered list) (i ∷ []) (j ∷ [])))
   pub filled :
       (i j : ℕ) → 0 < i → i ≤ length list → 0 < j → j ≤ length list
       → reaches i j ≡ list_any (λ k. leads (numbered list) (i ∷ []) (k ∷ []) && (k == j || reaches k j)) (numbers (numbered list))
-  pub saves : (i j : ℕ) → 0 < i → i < j → j ≤ length list → saved i j ≡ saving list (i ∷ [], j ∷ [])
 
 -- some number below n passes
 abbrev pub any_below : (ℕ → Bool) → ℕ → Bool

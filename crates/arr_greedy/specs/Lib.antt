@@ -4,4 +4,5 @@ pub mod Fast
 pub mod Blocks
 pub mod Standing
 pub mod Start
+pub mod Bits
 pub mod Tables

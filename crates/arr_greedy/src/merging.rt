@@ -1,18 +1,22 @@
 //! The merges of `greedy`.
-ghost use Rattle.std.specs.Prelude.{◌≡◌, ◌<◌, ◌*◌, ◌+◌, ◌==◌, ◌||◌, ◌≢◌, ◌^◌, [], length, ℕ, IfOk, IsTrue, not, false, get_or, map};
+ghost use Rattle.std.specs.Prelude.{◌≡◌, ◌<◌, ◌*◌, ◌+◌, ◌==◌, ◌||◌, ◌≢◌, ◌^◌, ◌++◌, ◌∷◌, [], cond, length, ℕ, IfOk, IsTrue, not, false, get_or, map};
 ghost use Rattle.std.specs.List.{All, filter, range_with_len};
 ghost use Rattle.arr_view.specs.Views.{has};
-ghost use Rattle.arr_ops.specs.Plans.{not_empty, numbered};
-ghost use Rattle.arr_ops.specs.Order.{least_of};
-ghost use Rattle.arr_heur.specs.Planners.{greedy_within, union};
+ghost use Rattle.arr_ops.specs.Plans.{not_empty};
+ghost use Rattle.arr_ops.specs.Order.{In, least_of};
+ghost use Rattle.arr_heur.specs.Planners.{greedy_within};
+ghost use Rattle.arr_greedy.specs.Bits.{bit, words};
 ghost use Rattle.arr_greedy.specs.Blocks.{row_at, Keyed};
-ghost use Rattle.arr_greedy.specs.Fast.{amount, flag, fuses_after, Told};
-ghost use Rattle.arr_greedy.specs.Tables.{AreAmounts, AreFlags, ReachesAfter, with_cell};
-ghost use Rattle.arr_greedy.specs.Standing.{ArePrinted, IsPrinted, OthersStay, Priced, blocks_of, merged_at, rows_of, saving_at, union_at};
+ghost use Rattle.arr_greedy.specs.Fast.{flag, fuses_after, Told};
+ghost use Rattle.arr_greedy.specs.Tables.{AreFlags, NoLoopsAfter, ReachesAfter, TellsWays};
+ghost use Rattle.arr_greedy.specs.Standing.{AllPriced, ArePriced, ArePrinted, IsPrinted, IsUnion, PricesStay, blocks_of, merged_at, rows_of, union_at};
 
 use crate::NoMemory;
 use crate::choice::next_pair;
-use crate::rows::{fuse_rows, push_if, reach_rows};
+use crate::grid::put_bit;
+use crate::pricing::price_row;
+use crate::reach::reach_rows;
+use crate::rows::fuse_rows;
 use arr_cost::{Costs, Footprint};
 use std::alloc::Global;
 
@@ -28,7 +32,7 @@ impl Block {
     fn union(&self, alloc: Global, costs: &Costs, other: &Block) -> Result<Block, NoMemory>
         requires first { IsPrinted costs.now self.now }
         requires second { IsPrinted costs.now other.now }
-        ensures numbers { IfOk result (λ block. block.numbers.items ≡ union (numbered costs.now) self.now.numbers.items other.now.numbers.items) }
+        ensures numbers { IfOk result (λ both. IsUnion costs.now self.now other.now both) }
         ensures print { IfOk result (λ block. IsPrinted costs.now block) }
     {
         let numbers = union_of(
@@ -40,17 +44,6 @@ impl Block {
         let print = self.print.joined(alloc, &other.print)?;
         Ok(Block { numbers, print })
     }
-}
-
-/// What one block in place of two saves.
-pub(crate) fn pair_saving(costs: &Costs, blocks: &[Block], left: usize, right: usize) -> u64
-    requires left_in { left < length blocks.now }
-    requires right_in { right < length blocks.now }
-    requires keyed { Keyed (rows_of blocks.now) }
-    requires printed { ArePrinted costs.now blocks.now }
-    ensures { result ≡ saving_at costs.now blocks.now left right }
-{
-    costs.joint_saving(&blocks[left].print, &blocks[right].print)
 }
 
 /// Marks a number, if it is below the bound.
@@ -91,6 +84,16 @@ fn is_marked(marks: &[bool], number: u32) -> bool
     ensures { result ≡ get_or marks.now number false }
 {
     marks[number as usize]
+}
+
+/// Puts a number last, where it is one of those looked for.
+fn push_if(inside: bool, found: &mut Vec<u32>, number: u32) -> Result<(), NoMemory>
+    ensures { IfOk result (λ done. found.new.items ≡ found.old.items ++ cond inside (number ∷ []) []) }
+{
+    if inside {
+        found.push(number)?;
+    }
+    Ok(())
 }
 
 /// The numbers of two blocks, ascending.
@@ -154,44 +157,6 @@ fn drop_key(keys: &mut Vec<usize>, key: usize)
     keys.retain(|k| *k != key);
 }
 
-/// Sets one number.
-fn put_amount(rows: &mut [u64], width: usize, row: usize, column: usize, value: u64)
-    requires row_in { row < width }
-    requires column_in { column < width }
-    requires size { length rows.old ≡ width * width }
-    ensures size { length rows.new ≡ width * width }
-    ensures put { AreAmounts rows.new width (with_cell (amount rows.old width) row column value) }
-{
-    rows[row * width + column] = value;
-}
-
-/// The savings of one block with each of the others.
-fn price_row(
-    costs: &Costs,
-    blocks: &[Block],
-    keys: &[usize],
-    saved: &mut [u64],
-    width: usize,
-    left: usize,
-)
-    requires left_in { left < width }
-    requires blocks_in { length blocks.now ≡ width }
-    requires keyed { Keyed (rows_of blocks.now) }
-    requires printed { ArePrinted costs.now blocks.now }
-    requires keys_in { All (λ k. k < width) keys.now }
-    requires size { length saved.old ≡ width * width }
-    ensures size { length saved.new ≡ width * width }
-    ensures priced { Priced costs.now blocks.now saved.new width left keys.now }
-    ensures others { OthersStay saved.old saved.new width left }
-{
-    for key in keys {
-        let row = (*key).min(left);
-        let column = (*key).max(left);
-        let saving = pair_saving(costs, blocks, row, column);
-        put_amount(saved, width, row, column, saving);
-    }
-}
-
 /// One merge, with the rows after it.
 fn one_turn(
     alloc: Global,
@@ -199,8 +164,10 @@ fn one_turn(
     blocks: &mut Vec<Block>,
     keys: &mut Vec<usize>,
     fuses: &mut [bool],
-    reaches: &mut [bool],
+    reaches: &mut [u64],
+    reached: &mut [u64],
     saved: &mut [u64],
+    bounds: &mut [Option<u64>],
     width: usize,
     left: usize,
     right: usize,
@@ -217,8 +184,15 @@ fn one_turn(
     requires blocks_in { length blocks.old.items ≡ width }
     requires keys_in { All (λ k. k < width) keys.old.items }
     requires fuses_size { length fuses.old ≡ width * width }
-    requires reaches_size { length reaches.old ≡ width * width }
+    requires reaches_size { length reaches.old ≡ width * words width }
+    requires reached_size { length reached.old ≡ width * words width }
+    requires ways { TellsWays keys.old.items reaches.old reached.old width }
+    requires left_key { In left keys.old.items }
+    requires right_key { In right keys.old.items }
+    requires positive { All (λ k. 0 < k) keys.old.items }
+    requires loopless { NoLoopsAfter reaches.old width keys.old.items left right }
     requires saved_size { length saved.old ≡ width * width }
+    requires bounds_size { length bounds.old ≡ width }
     ensures blocks { IfOk result (λ done. blocks_of blocks.new.items ≡ merged_at costs.now blocks.old.items left right) }
     ensures blocks_in { IfOk result (λ done. length blocks.new.items ≡ width) }
     ensures keyed { IfOk result (λ done. Keyed (rows_of blocks.new.items)) }
@@ -226,22 +200,32 @@ fn one_turn(
     ensures keys { IfOk result (λ done. keys.new.items ≡ filter (λ k. not (k == right)) keys.old.items) }
     ensures keys_in { IfOk result (λ done. All (λ k. k < width) keys.new.items) }
     ensures fuses_size { length fuses.new ≡ width * width }
-    ensures reaches_size { length reaches.new ≡ width * width }
+    ensures reaches_size { length reaches.new ≡ width * words width }
+    ensures reached_size { length reached.new ≡ width * words width }
     ensures saved_size { IfOk result (λ done. length saved.new ≡ width * width) }
+    ensures bounds_size { IfOk result (λ done. length bounds.new ≡ width) }
     ensures fuses { AreFlags fuses.new width (fuses_after (flag fuses.old width) left right) }
-    ensures reaches { IfOk result (λ done. ReachesAfter reaches.old reaches.new width left right) }
-    ensures priced { IfOk result (λ done. Priced costs.now blocks.new.items saved.new width left keys.new.items) }
-    ensures others { IfOk result (λ done. OthersStay saved.old saved.new width left) }
+    ensures reaches { ReachesAfter reaches.old reaches.new width left right }
+    ensures ways { IfOk result (λ done. TellsWays keys.new.items reaches.new reached.new width) }
+    ensures priced { IfOk result (λ done. ArePriced costs.now blocks.new.items fuses.new reaches.new keys.new.items saved.new bounds.new width left 0) }
+    ensures stays { IfOk result (λ done. PricesStay costs.now blocks.new.items fuses.new reaches.new saved.old bounds.old saved.new bounds.new width) }
 {
     fuse_rows(fuses, width, left, right);
-    reach_rows(alloc, reaches, width, left, right)?;
+    reach_rows(reaches, width, left, right);
+    reach_rows(reached, width, left, right);
+    put_bit(reached, width, 0, right, false);
     join(alloc, costs, blocks, left, right)?;
     drop_key(keys, right);
     price_row(
         costs,
         blocks.as_slice(),
         keys.as_slice(),
+        0,
+        fuses,
+        reaches,
+        reached,
         saved,
+        bounds,
         width,
         left,
     );
@@ -255,8 +239,10 @@ pub(crate) fn merge_all(
     blocks: &mut Vec<Block>,
     keys: &mut Vec<usize>,
     fuses: &mut [bool],
-    reaches: &mut [bool],
+    reaches: &mut [u64],
+    reached: &mut [u64],
     saved: &mut [u64],
+    bounds: &mut [Option<u64>],
     width: usize,
     count: usize,
 ) -> Result<(), NoMemory>
@@ -265,17 +251,30 @@ pub(crate) fn merge_all(
     requires blocks_in { length blocks.old.items ≡ width }
     requires keys_in { All (λ k. k < width) keys.old.items }
     requires fuses_size { length fuses.old ≡ width * width }
-    requires reaches_size { length reaches.old ≡ width * width }
+    requires reaches_size { length reaches.old ≡ width * words width }
+    requires reached_size { length reached.old ≡ width * words width }
+    requires ways { TellsWays keys.old.items reaches.old reached.old width }
     requires saved_size { length saved.old ≡ width * width }
+    requires bounds_size { length bounds.old ≡ width }
     requires keys { keys.old.items ≡ map least_of (blocks_of blocks.old.items) }
-    requires told { Told costs.now (blocks_of blocks.old.items) (flag fuses.old width) (flag reaches.old width) (amount saved.old width) }
+    requires told { Told costs.now (blocks_of blocks.old.items) (flag fuses.old width) (bit reaches.old width) }
+    requires priced { AllPriced costs.now blocks.old.items fuses.old reaches.old keys.old.items saved.old bounds.old width }
     ensures { IfOk result (λ done. blocks_of blocks.new.items ≡ greedy_within count costs.now (blocks_of blocks.old.items)) }
 {
     for turn in 0..count {
-        match next_pair(keys.as_slice(), fuses, reaches, saved, width) {
+        match next_pair(
+            keys.as_slice(),
+            fuses,
+            reaches,
+            reached,
+            saved,
+            bounds,
+            width,
+        ) {
             None => return Ok(()),
             Some((left, right)) => one_turn(
-                alloc, costs, blocks, keys, fuses, reaches, saved, width, left, right,
+                alloc, costs, blocks, keys, fuses, reaches, reached, saved, bounds, width, left,
+                right,
             )?,
         }
     }

@@ -8,8 +8,9 @@ ghost use Rattle.arr_greedy.specs.Standing.{ArePrinted, IsPrinted, blocks_of, ro
 
 use crate::NoMemory;
 use crate::merging::{Block, merge_all, no_block};
-use crate::start::fill_rows;
-use crate::tables::{dep_table, fuse_table, saved_table};
+use crate::pricing::price_all;
+use crate::start::{reach_table, reached_table};
+use crate::tables::fuse_table;
 use arr_cost::Costs;
 use arr_deps::Graph;
 use arr_heur::ordered;
@@ -82,13 +83,24 @@ fn greedy_blocks(alloc: Global, graph: &Graph, costs: &Costs) -> Result<Vec<Vec<
 {
     let count = graph.len() as usize;
     let width = count + 1;
-    let mut fuses = fuse_table(alloc, graph, width)?;
-    let deps = dep_table(alloc, graph, width)?;
-    let mut reaches = vec![in alloc; false; width * width]?;
-    fill_rows(deps.as_slice(), reaches.as_mut_slice(), width);
     let mut blocks = single_blocks(alloc, costs, count)?;
-    let mut saved = saved_table(alloc, costs, blocks.as_slice(), width)?;
     let mut keys = all_numbers(alloc, count)?;
+    let mut fuses = fuse_table(alloc, graph, width)?;
+    let mut reaches = reach_table(alloc, graph, width)?;
+    let mut reached = reached_table(alloc, reaches.as_slice(), keys.as_slice(), width)?;
+    let mut saved = vec![in alloc; 0; width * width]?;
+    let mut bounds = vec![in alloc; None; width]?;
+    price_all(
+        costs,
+        blocks.as_slice(),
+        keys.as_slice(),
+        fuses.as_slice(),
+        reaches.as_slice(),
+        reached.as_slice(),
+        saved.as_mut_slice(),
+        bounds.as_mut_slice(),
+        width,
+    );
     merge_all(
         alloc,
         costs,
@@ -96,7 +108,9 @@ fn greedy_blocks(alloc: Global, graph: &Graph, costs: &Costs) -> Result<Vec<Vec<
         &mut keys,
         fuses.as_mut_slice(),
         reaches.as_mut_slice(),
+        reached.as_mut_slice(),
         saved.as_mut_slice(),
+        bounds.as_mut_slice(),
         width,
         count,
     )?;

@@ -1,9 +1,0 @@
-use Rattle.std.proofs.Common.{◌≡◌, ◌<◌, ◌/◌, ◌%◌, ℕ, false, length, get_or}
-use Rattle.arr_greedy.specs.Start.{fuses_at}
-use Rattle.arr_greedy.proofs.tables.fuse_table.Given as goal
-
-abbrev pub invariant-loop-place : goal.invariant-loop-place
-invariant-loop-place l = record {
-  long : length l.rows.items ≡ l.place;
-  flags : (k : ℕ) → k < l.place → get_or l.rows.items k false ≡ fuses_at l.graph (k / l.width) (k % l.width);
-}
