@@ -2,7 +2,6 @@
 ghost use Rattle.std.specs.Prelude.{◌≡◌, ◌≤◌, ◌+◌, ◌*◌, true, All, Some, drop, take};
 ghost use Rattle.std.specs.List.{list_any};
 ghost use Rattle.arr_view.specs.Views.{positions};
-ghost use Rattle.arr_ops.specs.Formed.{is_array};
 ghost use Rattle.arr_ops.specs.declared.op.Op.{Op};
 ghost use Rattle.arr_store.specs.Slots.{slot_size, slots_of};
 ghost use Rattle.arr_io.specs.Buffered.{Puts, Writes, outgoing};
@@ -12,7 +11,7 @@ ghost use Rattle.arr_listing.specs.Shown.{Shows, is_slot, numbers_of, shown_text
 use crate::numbers::{put_number, put_numbers};
 use crate::operations::type_name;
 use arr_io::{Sink, SinkBuffer, WriteFault};
-use arr_ops::{Op, Operand};
+use arr_ops::{Op, array_view};
 use arr_store::Slots;
 use arr_view::{MOST_ELEMENTS, View};
 
@@ -61,18 +60,6 @@ fn put_rows<K: Sink>(
     }
 }
 
-/// The view that a SYNC shows.
-fn shown(operand: &Option<Operand>) -> &View
-    requires { is_array operand.now ≡ true }
-    ensures { operand.now ≡ Some (Operand.Array result.now) }
-{
-    match operand {
-        Some(Operand::Array(view)) => view,
-        Some(Operand::Number(_)) => unreachable!(),
-        None => unreachable!(),
-    }
-}
-
 /// How many rows a view's last dimension has, and how long they are.
 fn row_sizes(view: &View) -> (u32, u32)
     ensures count { result.0 ≡ row_count view.now.lengths }
@@ -93,7 +80,7 @@ pub fn put_array<K: Sink>(op: &Op, slot: u32, slots: &Slots, out: &mut SinkBuffe
     ensures { Puts (outgoing K.Sink out.old sink.old) (outgoing K.Sink out.new sink.new)
         (shown_text (slots_of slots.now slot)) }
 {
-    let view = shown(&op.first);
+    let view = array_view(&op.first);
     let (count, width) = row_sizes(view);
     out.put(type_name(op.from).as_bytes(), sink);
     put_numbers(view.shape(), out, sink);

@@ -11,7 +11,6 @@ use crate::NoMemory;
 use crate::explore::explore;
 use crate::found::Found;
 use crate::moves::try_moves;
-use crate::ops::ops_of;
 use crate::places::places_of;
 use crate::progress::Progress;
 use arr_bound::Views;
@@ -21,7 +20,7 @@ use arr_greedy::greedy;
 use arr_heur::linear;
 use arr_law::{Certificate, Records};
 use arr_ops::Plan;
-use arr_state::State;
+use arr_state::{State, ops_of};
 use std::alloc::Global;
 
 /// What a search begins with: greedy's plan, and no record.

@@ -34,7 +34,6 @@ mod hints;
 mod laws;
 mod moves;
 mod node;
-mod ops;
 mod partition;
 mod parts;
 mod places;

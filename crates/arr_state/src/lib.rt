@@ -26,6 +26,7 @@ mod sift;
 mod state;
 
 pub use laws::plans_keep_facts;
+pub use opening::ops_of;
 pub use outcome::Outcome;
 pub use state::State;
 

@@ -24,8 +24,8 @@ use arr_ops::Op;
 use arr_view::View;
 use std::alloc::Global;
 
-/// The operations of a graph.
-pub(crate) fn ops_of(alloc: Global, graph: &Graph) -> Result<Vec<Op>, NoMemory>
+/// A copy of the operations of a graph, in the order of its list. Want of memory is its one refusal (docs/PLANS.md, "Graph and costs").
+pub fn ops_of(alloc: Global, graph: &Graph) -> Result<Vec<Op>, NoMemory>
     ensures is { IfOk result (λ ops. ops.items ≡ graph.now) }
     ensures few { IfOk result (λ ops. length ops.items ≤ 256) }
     ensures formed { IfOk result (λ ops. IsTrue (is_formed ops.items)) }

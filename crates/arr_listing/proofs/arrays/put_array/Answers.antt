@@ -9,4 +9,4 @@ pub returns : goal.returns
 returns g c =
     put_as
     (put_as c.put.ensures (c.as_bytes.ensures.value ∙ c.type_name.ensures) ▹ put_as c.put_numbers.ensures (ap numbers_text c.shape.ensures.value) ▹ c.put-2.ensures ▹ c.put_rows.ensures)
-    (array_is c.args.op.now c.shown-view.result.now (slots_of c.args.slots.now c.args.slot) _ _ c.requires c.shown-view.ensures c.row_sizes-count.ensures.count c.row_sizes-count.ensures.width)
+    (array_is c.args.op.now c.array_view-view.result.now (slots_of c.args.slots.now c.args.slot) _ _ c.requires c.array_view-view.ensures c.row_sizes-count.ensures.count c.row_sizes-count.ensures.width)
