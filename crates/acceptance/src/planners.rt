@@ -1,9 +1,9 @@
-//! Calls of graphs, costs, planners, sets and certificates that take memory: each answers something else than want of it.
+//! Calls of graphs, costs, planners and certificates that take memory: each answers something else than want of it.
 
 ghost use Rattle.std.specs.Prelude.{IfOk, IsTrue};
 ghost use Rattle.arr_ops.specs.Formed.{is_formed};
 
-use arr_cert::{Item, Reader};
+use arr_cert::Reader;
 use arr_cost::Costs;
 use arr_deps::Graph;
 use arr_greedy::greedy;
@@ -13,8 +13,8 @@ use arr_law::{Certificate, Charge, Charges, OpList, Places, Record, Records};
 use arr_num::{Code, Elem};
 use arr_ops::{Op, Operand, list_formed};
 use arr_search::search;
-use arr_sets::{OpSet, Rows};
 use arr_view::View;
+use std::alloc::Global;
 use std::process::Abort;
 use std::test::Fail;
 
@@ -45,79 +45,73 @@ fn two_more(rt: &impl Abort) -> Result<[Op; 2], Fail>
 }
 
 #[test]
-fn lists_are_planned(rt: HostRuntime) -> Result<(), Fail> {
-    let alloc = rt.alloc();
+fn a_list_is_planned(rt: HostRuntime) -> Result<(), Fail> {
     let list = two_more(&rt)?;
-    let graph = Graph::of(alloc, &list)?;
-    let costs = Costs::of(alloc, &list)?;
-    assert_eq!(rt; linear(alloc, &graph)?.blocks.len(), 1);
-    assert_eq!(rt; greedy(alloc, &graph, &costs)?.blocks.len(), 1);
+    let graph = Graph::of(rt.alloc(), &list)?;
+    let costs = Costs::of(rt.alloc(), &list)?;
+    drop(linear(rt.alloc(), &graph)?);
+    drop(greedy(rt.alloc(), &graph, &costs)?);
     Ok(())
 }
 
 #[test]
-fn lists_are_searched(rt: HostRuntime) -> Result<(), Fail> {
-    let alloc = rt.alloc();
+fn a_list_is_searched(rt: HostRuntime) -> Result<(), Fail> {
     let list = two_more(&rt)?;
-    let graph = Graph::of(alloc, &list)?;
-    let costs = Costs::of(alloc, &list)?;
-    let found = search(alloc, &graph, &costs, 1, 100)?;
-    assert_eq!(rt; (found.plan.blocks.len(), found.units), (1, 0));
-    assert_eq!(rt; (found.cost, found.bound), (72, 72));
+    let graph = Graph::of(rt.alloc(), &list)?;
+    let costs = Costs::of(rt.alloc(), &list)?;
+    let found = search(rt.alloc(), &graph, &costs, 1, 100)?;
+    assert!(rt; found.cost == 72 && found.bound == 72);
     Ok(())
 }
 
 #[test]
 fn blocks_are_priced(rt: HostRuntime) -> Result<(), Fail> {
-    let alloc = rt.alloc();
-    let list = two_more(&rt)?;
-    let costs = Costs::of(alloc, &list)?;
-    assert_eq!(rt; costs.block_cost(alloc, &[1])?, 48);
-    assert_eq!(rt; costs.saving(alloc, &[1], &[2])?, 24);
-    assert_eq!(rt; costs.reads(alloc, &[2])?.len(), 1);
-    assert_eq!(rt; costs.writes(alloc, &[2])?.len(), 1);
-    let first = costs.footprint(alloc, &[1])?;
-    let second = costs.footprint(alloc, &[2])?;
-    assert_eq!(rt; costs.joint_saving(&first, &second), 24);
-    let both = first.joined(alloc, &second)?;
-    assert_eq!(rt; costs.joint_saving(&both, &both), 72);
+    let costs = Costs::of(rt.alloc(), &two_more(&rt)?)?;
+    assert!(rt; costs.block_cost(rt.alloc(), &[1])? == 48);
+    assert!(rt; costs.saving(rt.alloc(), &[1], &[2])? == 24);
     Ok(())
 }
 
 #[test]
-fn sets_of_operations_are_made(rt: HostRuntime) -> Result<(), Fail> {
-    let alloc = rt.alloc();
-    let mut numbers = OpSet::new(alloc, 200)?;
-    numbers.insert(200);
-    assert!(rt; numbers.has(200) && !numbers.has(1));
-    let mut pairs = Rows::new(alloc, 9)?;
-    pairs.set(9, 1);
-    assert!(rt; pairs.has(9, 1) && !pairs.has(1, 9));
+fn blocks_read_and_write(rt: HostRuntime) -> Result<(), Fail> {
+    let costs = Costs::of(rt.alloc(), &two_more(&rt)?)?;
+    drop(costs.reads(rt.alloc(), &[2])?);
+    drop(costs.writes(rt.alloc(), &[2])?);
+    Ok(())
+}
+
+#[test]
+fn blocks_are_joined(rt: HostRuntime) -> Result<(), Fail> {
+    let costs = Costs::of(rt.alloc(), &two_more(&rt)?)?;
+    let first = costs.footprint(rt.alloc(), &[1])?;
+    drop(first.joined(rt.alloc(), &first)?);
     Ok(())
 }
 
 #[test]
 fn a_proof_is_read(rt: HostRuntime) -> Result<(), Fail> {
-    let alloc = rt.alloc();
     let mut proof = SureSource {
         bytes: b"!cost 8\n",
     };
-    let mut reader = Reader::new(alloc)?;
-    let read = reader.next(alloc, &mut proof)?;
-    assert!(rt; matches!(read, Item::Record(Record::Cost(8))));
+    let mut reader = Reader::new(rt.alloc())?;
+    drop(reader.next(rt.alloc(), &mut proof)?);
     Ok(())
 }
 
-#[test]
-fn certificates_are_made_and_copied(rt: HostRuntime) -> Result<(), Fail> {
-    let alloc = rt.alloc();
+/// The records of a tree that is a leaf of one group.
+fn leaf(alloc: Global) -> Result<Records, Fail> {
     let mut ops = OpList::new(alloc);
     ops.push(1)?;
     let mut charges = Charges::new(alloc);
     charges.push(Charge { operand: 0, ops })?;
     let mut tree = Records::new(alloc);
     tree.push(Record::Worth(charges))?;
-    let mut places = Places::new(alloc);
+    Ok(tree)
+}
+
+#[test]
+fn a_certificate_is_made_and_copied(rt: HostRuntime) -> Result<(), Fail> {
+    let mut places = Places::new(rt.alloc());
     places.push(1)?;
     let certificate = Certificate {
         version: 2,
@@ -126,9 +120,8 @@ fn certificates_are_made_and_copied(rt: HostRuntime) -> Result<(), Fail> {
         places,
         cost: 8,
         bound: 8,
-        tree,
+        tree: leaf(rt.alloc())?,
     };
-    let copy = certificate.copied(alloc)?;
-    assert_eq!(rt; (copy.places.len(), copy.tree.len(), copy.cost), (1, 1, 8));
+    drop(certificate.copied(rt.alloc())?);
     Ok(())
 }

@@ -3,10 +3,8 @@
 
 ghost use Rattle.std.specs.Prelude.{◌<◌};
 
-use crate::runs::{check, run, source};
-use arr_io::{
-    MemorySink, NoMemory, StdSink, StdSource, WriteFault, read_all, read_up_to, write_all,
-};
+use crate::runs::{Faults, run, source};
+use arr_io::{MemorySink, NoMemory, StdSink, StdSource, read_all, read_up_to, write_all};
 use std::alloc::Global;
 use std::process::Abort;
 use std::test::Fail;
@@ -24,8 +22,29 @@ const ONE: &str = "print range(1)\n";
 const ONE_CERTIFIED: &str =
     "# flush 1 recorded 3 rewritten 3 blocks 1 cost 0\n# op 1 RANGE +b0:i64@0[1:0]\n# op 2 SYNC b0:i64@0[1:0] slot=1\n# op 3 FREE b0\n# block 1 cost 0 ops 1 2 3\n# bound 0 units 0 optimal\n!flush 1 3 2\n!plan 1 1 1\n!cost 0\n!bound 0\n!worth\n!end\ni64 1\n0\n";
 
-/// Whether a run ends so, with a sink that takes a byte at each call: with this status and text, and with status 4 and the bytes before it where a
-/// call fails.
+const NONE: Faults = Faults {
+    script: 0,
+    proof: 0,
+    sink: 0,
+};
+
+/// Looks that a run with these words ends with this status and text, where a byte goes at each call and these calls fail.
+fn ends_with(
+    rt: &impl Abort,
+    alloc: Global,
+    words: &[&str],
+    script: &[u8],
+    faults: Faults,
+    status: u8,
+    text: &[u8],
+) -> Result<(), NoMemory> {
+    let ran = run(alloc, words, script, &[], 1, faults)?;
+    assert_eq!(rt; ran.status, status);
+    assert_eq!(rt; ran.written.as_slice(), text);
+    Ok(())
+}
+
+/// Looks that a run ends with this status and text, and with status 4 and the bytes before it where a writing call fails: for each byte.
 fn is_cut_anywhere(
     rt: &impl Abort,
     alloc: Global,
@@ -34,14 +53,12 @@ fn is_cut_anywhere(
     status: u8,
     text: &str,
 ) -> Result<(), NoMemory> {
-    let text = text.as_bytes();
-    let whole = run(alloc, words, script.as_bytes(), 0, 1, 0)?;
-    assert_eq!(rt; whole.status, status);
-    assert_eq!(rt; whole.written.as_slice(), text);
-    for fails in 1..=text.len() {
-        let ran = run(alloc, words, script.as_bytes(), 0, 1, fails as u64)?;
-        assert_eq!(rt; ran.status, 4);
-        assert_eq!(rt; ran.written.as_slice(), &text[..fails - 1]);
+    let (script, text) = (script.as_bytes(), text.as_bytes());
+    ends_with(rt, alloc, words, script, NONE, status, text)?;
+    for before in 0..text.len() {
+        let sink = before as u64 + 1;
+        let faults = Faults { sink, ..NONE };
+        ends_with(rt, alloc, words, script, faults, 4, &text[..before])?;
     }
     Ok(())
 }
@@ -52,22 +69,17 @@ fn each_writing_fault_ends_the_run(rt: HostRuntime) -> Result<(), Fail> {
     is_cut_anywhere(&rt, alloc, &["run"], MOVED, 0, MOVED_PRINTED)?;
     is_cut_anywhere(&rt, alloc, &["run"], "?", 1, "refused 1:1 BadByte\n")?;
     is_cut_anywhere(&rt, alloc, &["run", "run"], MOVED, 2, USAGE)?;
+    is_cut_anywhere(&rt, alloc, &["run", "--cert"], ONE, 0, ONE_CERTIFIED)?;
     Ok(())
 }
 
-#[test]
-fn each_writing_fault_cuts_a_certificate(rt: HostRuntime) -> Result<(), Fail> {
-    is_cut_anywhere(&rt, rt.alloc(), &["run", "--cert"], ONE, 0, ONE_CERTIFIED)?;
-    Ok(())
-}
-
-/// Whether a run whose source gives a byte at each call ends with status 3, and writes nothing, where a call fails: for each byte, and for the end.
+/// Looks that a run whose source gives a byte at each call ends with status 3, and writes nothing, where a call fails: for each byte, and for the end.
 fn is_unread_anywhere(rt: &impl Abort, alloc: Global, script: &str) -> Result<(), NoMemory> {
-    let script = script.as_bytes();
-    for before in 0..=script.len() {
-        let ran = run(alloc, &["run"], script, before as u64 + 1, 1, 0)?;
-        assert_eq!(rt; ran.status, 3);
-        assert!(rt; ran.written.is_empty());
+    let bytes = script.as_bytes();
+    for before in 0..=bytes.len() {
+        let script = before as u64 + 1;
+        let faults = Faults { script, ..NONE };
+        ends_with(rt, alloc, &["run"], bytes, faults, 3, &[])?;
     }
     Ok(())
 }
@@ -85,7 +97,41 @@ const PROVED: &str =
 
 const ACCEPTED: &str = "flush 1 cost 16 bound 16 optimal\naccepted 1\n";
 
-/// Whether the check of a proof ends so, whether it comes byte by byte or in one piece.
+const UNFINISHED: &str = "rejected flush 1 line 1 Unfinished\n";
+
+const TRAILING: &str = "rejected flush 1 line 1 Trailing\n";
+
+/// Looks that the check of a proof that comes in such pieces ends with this status and text, where this read of it fails, none where it is 0.
+fn check_ends_with(
+    rt: &impl Abort,
+    alloc: Global,
+    script: &str,
+    proof: &[u8],
+    piece: usize,
+    fails: u64,
+    status: u8,
+    text: &str,
+) -> Result<(), NoMemory>
+    requires { 0 < piece }
+{
+    let faults = Faults {
+        proof: fails,
+        ..NONE
+    };
+    let ran = run(
+        alloc,
+        &["check", "FILE"],
+        script.as_bytes(),
+        proof,
+        piece,
+        faults,
+    )?;
+    assert_eq!(rt; ran.status, status);
+    assert_eq!(rt; ran.written.as_slice(), text.as_bytes());
+    Ok(())
+}
+
+/// Looks that the check of a proof ends so, whether it comes byte by byte or in one piece.
 fn is_judged(
     rt: &impl Abort,
     alloc: Global,
@@ -94,85 +140,60 @@ fn is_judged(
     status: u8,
     text: &str,
 ) -> Result<(), NoMemory> {
-    for piece in [1, 4096] {
-        let ran = check(alloc, script.as_bytes(), proof.as_bytes(), piece, 0)?;
-        assert_eq!(rt; ran.status, status);
-        assert_eq!(rt; ran.written.as_slice(), text.as_bytes());
-    }
-    Ok(())
+    check_ends_with(rt, alloc, script, proof.as_bytes(), 1, 0, status, text)?;
+    check_ends_with(rt, alloc, script, proof.as_bytes(), 4096, 0, status, text)
 }
 
 #[test]
 fn proofs_are_judged(rt: HostRuntime) -> Result<(), Fail> {
     let alloc = rt.alloc();
     is_judged(&rt, alloc, SUMMED, PROVED, 0, ACCEPTED)?;
-    is_judged(
-        &rt,
-        alloc,
-        SUMMED,
-        "",
-        6,
-        "rejected flush 1 line 1 Unfinished\n",
-    )?;
-    is_judged(
-        &rt,
-        alloc,
-        "",
-        "!end\n",
-        6,
-        "rejected flush 1 line 1 Trailing\n",
-    )?;
+    is_judged(&rt, alloc, SUMMED, "", 6, UNFINISHED)?;
+    is_judged(&rt, alloc, "", "!end\n", 6, TRAILING)?;
     is_judged(&rt, alloc, "a = $\n", PROVED, 1, "refused 1:5 BadByte\n")?;
     Ok(())
+}
+
+/// The proof with 200,000 bytes behind it that are no record.
+fn long_proof(alloc: Global) -> Result<Vec<u8>, NoMemory> {
+    let mut proof = Vec::from_slice(alloc, PROVED.as_bytes())?;
+    for _ in 0..2000 {
+        proof.extend_from_slice(&[b'x'; 100])?;
+    }
+    Ok(proof)
 }
 
 #[test]
 fn reading_faults_of_a_proof_end_its_check(rt: HostRuntime) -> Result<(), Fail> {
     let alloc = rt.alloc();
-    let mut proof = Vec::from_slice(alloc, PROVED.as_bytes())?;
-    for _ in 0..2000 {
-        proof.extend_from_slice(&[b'x'; 99])?;
-        proof.push(b'\n')?;
-    }
-    let first = check(alloc, SUMMED.as_bytes(), &proof, 4096, 1)?;
-    assert_eq!(rt; first.status, 3);
-    assert!(rt; first.written.is_empty());
-    let later = check(alloc, SUMMED.as_bytes(), &proof, 4096, 40)?;
-    assert_eq!(rt; later.status, 3);
-    assert_eq!(rt; later.written.as_slice(), &ACCEPTED.as_bytes()[..33]);
+    let proof = long_proof(alloc)?;
+    let text = "flush 1 cost 16 bound 16 optimal\n";
+    check_ends_with(&rt, alloc, SUMMED, &proof, 4096, 1, 3, "")?;
+    check_ends_with(&rt, alloc, SUMMED, &proof, 4096, 40, 3, text)?;
     Ok(())
 }
+
+/// Ten bytes.
+const TEN: &[u8] = b"0123456789";
 
 #[test]
 fn sources_are_read_to_their_end_or_limit(rt: HostRuntime) -> Result<(), Fail> {
     let alloc = rt.alloc();
-    let bytes = b"0123456789";
-    let mut pieces = source(alloc, bytes, 3, 0)?;
-    assert_eq!(rt;
-        read_all(alloc, &mut pieces, 10)?.as_slice(),
-        bytes.as_slice()
-    );
-    let mut front = source(alloc, bytes, 4, 0)?;
-    assert_eq!(rt;
-        read_up_to(alloc, &mut front, 6)?.as_slice(),
-        b"012345".as_slice()
-    );
-    let mut std = StdSource::new(bytes.as_slice());
-    assert_eq!(rt; read_all(alloc, &mut std, 10)?.as_slice(), bytes.as_slice());
+    assert!(rt; read_all(alloc, &mut source(alloc, TEN, 3, 0)?, 10)?.as_slice() == TEN);
+    assert!(rt; read_up_to(alloc, &mut StdSource::new(TEN), 6)?.as_slice() == &TEN[..6]);
     Ok(())
 }
 
 #[test]
-fn sinks_take_all_or_a_front(rt: HostRuntime) -> Result<(), Fail> {
-    let alloc = rt.alloc();
-    let bytes = b"0123456789";
-    let mut whole = MemorySink::new(alloc, 10, 3, Vec::new(alloc))?;
-    assert_eq!(rt; write_all(&mut whole, bytes), Ok(()));
-    assert_eq!(rt; whole.bytes.as_slice(), bytes.as_slice());
-    let mut small = MemorySink::new(alloc, 4, 3, Vec::new(alloc))?;
-    assert_eq!(rt; write_all(&mut small, bytes), Err(WriteFault));
-    assert_eq!(rt; small.bytes.as_slice(), b"0123".as_slice());
-    let mut std = StdSink::new(Vec::new(alloc));
-    assert_eq!(rt; write_all(&mut std, bytes), Ok(()));
+fn a_sink_takes_a_front(rt: HostRuntime) -> Result<(), Fail> {
+    let mut small = MemorySink::new(rt.alloc(), 4, 3, Vec::new(rt.alloc()))?;
+    assert!(rt; write_all(&mut small, TEN).is_err());
+    assert!(rt; small.bytes.as_slice() == &TEN[..4]);
+    Ok(())
+}
+
+#[test]
+fn a_writer_of_std_takes_all(rt: HostRuntime) -> Result<(), Fail> {
+    assert!(rt; write_all(&mut StdSink::new(Vec::new(rt.alloc())), TEN).is_ok());
     Ok(())
 }
