@@ -1,9 +1,10 @@
 -- The bits of words, and sums of weights.
-use Rattle.std.proofs.Common.{◌≡◌, ℕ, zero, suc, ◌+◌, ◌-◌, ◌*◌, ◌%◌, ◌^◌, ◌<◌, ◌≤◌, List, [], ◌∷◌, Bool, true, false, cond, not, ◌&&◌, ◌||◌, length, get_or, min, max, refl, ap, ap₂, sym, ◌∙◌, arith, w64, eq-eqb}
+use Rattle.std.proofs.Common.{◌≡◌, ℕ, zero, suc, ◌+◌, ◌-◌, ◌*◌, ◌/◌, ◌%◌, ◌^◌, ◌<◌, ◌≤◌, List, [], ◌∷◌, Bool, true, false, cond, not, ◌&&◌, ◌||◌, length, get_or, min, max, refl, ap, ap₂, sym, ◌∙◌, arith, w64, eq-eqb}
 use Rattle.std.specs.Prelude.{◌==◌, bit_and, bit_or, nat_lt}
-use Rattle.std.specs.Int.{bit_at}
+use Rattle.std.specs.Int.{bit_at, trailing_zeros}
 use Rattle.std.proofs.lemmas.Bool.{eqb-true, false≢true, ltb-false, ltb-true, ne_eqb}
-use Rattle.std.proofs.lemmas.Nat.Bits.{bit_at-lt, bit_at-zero, bit_at_and, bit_at_not, bit_at_or, bit_at_set_other, bit_at_set_same}
+use Rattle.std.proofs.lemmas.Nat.{div-add-mod', mod_below, pow_pos, shr-shr, shr_le}
+use Rattle.std.proofs.lemmas.Nat.Bits.{bit_at-lt, bit_at-zero, bit_at-trailing_zeros, bit_at_above, bit_at_cat_high, bit_at_and, bit_at_not, bit_at_or, bit_at_set_other, bit_at_set_same}
 use Rattle.arr_cost.specs.Footprints.{has_bit, span}
 
 -- ---- bits
@@ -78,6 +79,23 @@ span_more ws a (suc n) p =
     let ih : span ws 0 (a + n) p ≡ span ws 0 a p + span ws a n (λ i. p (a + i)) = span_more ws a n p in
     let same : cond (p (a + n)) (get_or ws (0 + (a + n)) 0) 0 ≡ cond (p (a + n)) (get_or ws (a + n) 0) 0 = ap (λ k. cond (p (a + n)) (get_or ws k 0) 0) (let z : 0 + (a + n) ≡ a + n = omega arith in z) in
     ap (λ k. span ws 0 k p) e ∙ omega arith
+
+-- places that don't pass add nothing
+pub span_rest : (ws : List ℕ) (first n m : ℕ) (p : ℕ → Bool) → ((i : ℕ) → n ≤ i → i < n + m → p i ≡ false) → span ws first (n + m) p ≡ span ws first n p
+unfolding span
+span_rest ws first n zero p h = ap (λ k. span ws first k p) (let e : n + 0 ≡ n = omega arith in e)
+span_rest ws first n (suc m) p h =
+    let e : n + suc m ≡ suc (n + m) = omega arith in
+    let before : span ws first (n + m) p ≡ span ws first n p = span_rest ws first n m p (λ i a b. h i a (omega arith)) in
+    let none : cond (p (n + m)) (get_or ws (first + (n + m)) 0) 0 ≡ 0 = ap (λ b. cond b (get_or ws (first + (n + m)) 0) 0) (h (n + m) (omega arith) (omega arith)) in
+    ap (λ k. span ws first k p) e ∙ (let z : span ws first (n + m) p + cond (p (n + m)) (get_or ws (first + (n + m)) 0) 0 ≡ span ws first n p = omega arith in z)
+
+-- the bits of a word that is shifted
+pub bit_behind : (word d j : ℕ) → bit_at word (d + j) ≡ bit_at (word / 2 ^ d) j
+bit_behind word d j =
+    ap (λ n. bit_at n (d + j)) (sym (div-add-mod' word (2 ^ d)))
+    ∙ bit_at_cat_high (word / 2 ^ d) d (word % 2 ^ d) (d + j) (mod_below word (2 ^ d) (pow_pos d)) (omega arith)
+    ∙ ap (bit_at (word / 2 ^ d)) (let e : d + j - d ≡ j = omega arith in e)
 
 pub span_small : (ws : List ℕ) (first n : ℕ) (p : ℕ → Bool) → ((c : ℕ) → get_or ws c 0 ≤ 8388608) → span ws first n p ≤ n * 8388608
 unfolding span
@@ -209,3 +227,41 @@ span_next ws first n p = ap (λ k. span ws first k p) (let e : n + 1 ≡ suc n =
 pub span_zero : (ws : List ℕ) (p q : ℕ → Bool) → 0 ≡ span ws 0 0 p + span ws 0 0 q
 unfolding span
 span_zero ws p q = let e : 0 ≡ 0 + 0 = omega arith in e
+
+-- the lowest bit that is left: below it there is none
+pub lowest_left : (word d left : ℕ) → word < 2 ^ 64 → left ≡ word / 2 ^ d → 0 < left
+    → (d + trailing_zeros w64 left < 64) × (has_bit word (d + trailing_zeros w64 left) ≡ true) × ((i : ℕ) → d ≤ i → i < d + trailing_zeros w64 left → has_bit word i ≡ false)
+lowest_left word d left small is some =
+    let fits : left < 2 ^ 64 = (let a : word / 2 ^ d ≤ word = shr_le word d in omega arith) in
+    let z = bit_at-trailing_zeros w64 left some fits in
+    let one : bit_at word (d + trailing_zeros w64 left) ≡ 1 = bit_behind word d (trailing_zeros w64 left) ∙ ap (λ n. bit_at n (trailing_zeros w64 left)) (sym is) ∙ z.1 in (
+      elim (nat_lt (d + trailing_zeros w64 left) 64) as (λ b. nat_lt (d + trailing_zeros w64 left) 64 ≡ b → d + trailing_zeros w64 left < 64) [
+        | true ↦ λ e. ltb-true (d + trailing_zeros w64 left) 64 e
+        | false ↦ λ e. let none : bit_at word (d + trailing_zeros w64 left) ≡ 0 = bit_at_above word 64 (d + trailing_zeros w64 left) small (ltb-false (d + trailing_zeros w64 left) 64 e) in absurd (omega arith)
+      ] refl,
+      ap (λ n. n == 1) one,
+      λ i low high.
+          ap (λ n. n == 1)
+          (ap (bit_at word) (let e : i ≡ d + (i - d) = omega arith in e) ∙ bit_behind word d (i - d) ∙ ap (λ n. bit_at n (i - d)) (sym is) ∙ z.2 (i - d) (omega arith)),
+    )
+
+-- the sum goes on to the lowest bit that is left
+pub span_step : (ws : List ℕ) (first word d left : ℕ) → word < 2 ^ 64 → left ≡ word / 2 ^ d → 0 < left
+    → span ws first (d + (trailing_zeros w64 left + 1)) (has_bit word) ≡ span ws first d (has_bit word) + get_or ws (first + d + trailing_zeros w64 left) 0
+span_step ws first word d left small is some =
+    let z = lowest_left word d left small is some in
+    ap (λ n. span ws first n (has_bit word)) (let e : d + (trailing_zeros w64 left + 1) ≡ d + trailing_zeros w64 left + 1 = omega arith in e)
+    ∙ span_next ws first (d + trailing_zeros w64 left) (has_bit word)
+    ∙ ap₂ (λ s b. s + cond b (get_or ws (first + (d + trailing_zeros w64 left)) 0) 0) (span_rest ws first d (trailing_zeros w64 left) (has_bit word) z.2) z.1
+    ∙ ap (λ n. span ws first d (has_bit word) + get_or ws n 0) (let e : first + (d + trailing_zeros w64 left) ≡ first + d + trailing_zeros w64 left = omega arith in e)
+
+-- where no bit is left the sum is whole
+pub span_end : (ws : List ℕ) (first word d : ℕ) → d ≤ 64 → word / 2 ^ d ≡ 0 → span ws first 64 (has_bit word) ≡ span ws first d (has_bit word)
+span_end ws first word d few none =
+    ap (λ n. span ws first n (has_bit word)) (let e : 64 ≡ d + (64 - d) = omega arith in e)
+    ∙ span_rest ws first d (64 - d) (has_bit word)
+    (λ i low high. ap (λ n. n == 1) (ap (bit_at word) (let e : i ≡ d + (i - d) = omega arith in e) ∙ bit_behind word d (i - d) ∙ ap (λ n. bit_at n (i - d)) none ∙ bit_at-zero (i - d)))
+
+-- what is left behind a bit
+pub shifted : (word d left k : ℕ) → left ≡ word / 2 ^ d → left / 2 ^ k / 2 ^ 1 ≡ word / 2 ^ (d + (k + 1))
+shifted word d left k is = shr-shr left k 1 ∙ ap (λ n. n / 2 ^ (k + 1)) is ∙ shr-shr word d (k + 1)

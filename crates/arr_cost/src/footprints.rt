@@ -183,13 +183,13 @@ impl Row {
     }
 }
 
-/// What a class weighs, if it counts.
-fn weight_if(counts: bool, weights: &[u64], class: usize) -> u64
+/// What a class weighs; nothing, where there is no such class.
+fn weight_of(weights: &[u64], class: usize) -> u64
     requires { All (λ w. w ≤ 8388608) weights.now }
-    ensures value { result ≡ cond counts (get_or weights.now class 0) 0 }
+    ensures value { result ≡ get_or weights.now class 0 }
     ensures small { result ≤ 8388608 }
 {
-    if counts && class < weights.len() {
+    if class < weights.len() {
         weights[class]
     } else {
         0
@@ -204,12 +204,14 @@ fn add_weights(weights: &[u64], first: usize, word: u64, sum: u64) -> u64
     ensures value { result ≡ sum + span weights.now first 64 (has_bit word) }
     ensures small { result ≤ sum + 536870912 }
 {
-    if word == 0 {
-        return sum;
-    }
     let mut total = sum;
-    for digit in 0..64 {
-        total += weight_if(has_bit(word, digit), weights, first + digit);
+    let mut digit = 0;
+    let mut left = word;
+    while left != 0 {
+        let next = left.trailing_zeros() as usize;
+        total += weight_of(weights, first + digit + next);
+        left = left >> next >> 1;
+        digit += next + 1;
     }
     total
 }
