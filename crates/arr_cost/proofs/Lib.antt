@@ -5,5 +5,6 @@ pub mod Places
 pub mod Touched
 pub mod Marking
 pub mod Digits
+pub mod Idle
 pub mod Prints
 pub mod KeptSums

@@ -1,5 +1,5 @@
 -- What blocks touch, class by class, as rows of 64 bits.
-use Rattle.std.specs.Prelude.{◌≡◌, ℕ, zero, suc, ◌<◌, ◌+◌, ◌*◌, ◌/◌, ◌%◌, ◌==◌, nat_lt, List, ◌++◌, Bool, ◌&&◌, ◌||◌, not, map, min, cond, get_or, length, Option, bit_or}
+use Rattle.std.specs.Prelude.{◌≡◌, ◌⊎◌, ℕ, zero, suc, ◌<◌, ◌≤◌, ◌+◌, ◌*◌, ◌/◌, ◌%◌, ◌==◌, nat_lt, List, ◌++◌, Bool, ◌&&◌, ◌||◌, not, map, min, cond, get_or, length, Option, bit_or}
 use Rattle.std.specs.Int.{bit_at}
 use Rattle.std.specs.List.{flat_map, list_any}
 use Rattle.std.specs.Option.{option_to_list}
@@ -40,6 +40,20 @@ base_bit bases b c = nat_lt c (length bases) && (b == get_or bases c 0)
 
 abbrev pub blank : Row
 blank = record { reads = 0; writes = 0; makes = 0; frees = 0 }
+
+abbrev pub is_blank : Row → Bool
+is_blank row = row.reads == 0 && (row.writes == 0 && (row.makes == 0 && row.frees == 0))
+
+-- only the rows from one on up to another touch anything
+pub record LiesWithin (rows : List Row) (from upto : ℕ) : Type 0 where
+  pub few : length rows ≤ 64
+  pub inside : upto ≤ length rows
+  pub front : (i : ℕ) → i < from → get_or rows i blank ≡ blank
+  pub behind : (i : ℕ) → upto ≤ i → get_or rows i blank ≡ blank
+
+-- a row of one of two footprints touches nothing
+abbrev pub IsIdle : List Row → List Row → ℕ → Type 0
+IsIdle a b i = (get_or a i blank ≡ blank) ⊎ (get_or b i blank ≡ blank)
 
 -- the row that has a class
 abbrev pub row_for : List Row → ℕ → Row

@@ -2,7 +2,7 @@
 ghost use Rattle.std.specs.Prelude.{◌≡◌, ◌≤◌, ◌<◌, ◌+◌, ◌*◌, ◌/◌, ◌==◌, ◌&&◌, ◌||◌, ℕ, List, IfOk, cond, get_or, length};
 ghost use Rattle.std.specs.List.{All};
 ghost use Rattle.arr_cost.specs.Touches.{frees_number, makes_number};
-ghost use Rattle.arr_cost.specs.Footprints.{FreesAre, HasBases, HasClasses, IsJoint, MakesAre, ReadsAre, WritesAre, base_bit, has_bit, is_class, join, keeps, loses, reads_class, saved_by, span, writes_class};
+ghost use Rattle.arr_cost.specs.Footprints.{FreesAre, HasBases, HasClasses, IsIdle, IsJoint, MakesAre, ReadsAre, WritesAre, base_bit, blank, has_bit, is_blank, is_class, join, keeps, loses, reads_class, saved_by, span, writes_class};
 
 use crate::NoMemory;
 use crate::touches::{Touch, Touches};
@@ -19,21 +19,25 @@ pub(crate) struct Row {
     pub(crate) frees: u64,
 }
 
-/// What a block touches, class by class of identical views (docs/PLANS.md, "Cost"). A contract sees its rows, of 64 classes each.
+/// What a block touches, class by class of identical views (docs/PLANS.md, "Cost"). A contract sees its rows, of 64 classes each. Only
+/// those from one on up to another touch anything.
 #[derive(Debug, Drop)]
 pub struct Footprint {
     rows: Vec<Row>,
+    from: usize,
+    upto: usize,
 }
 
 impl Model for Footprint {
-    ghost use Rattle.std.specs.Prelude.{◌≤◌, List, length};
+    ghost use Rattle.std.specs.Prelude.{List};
+    ghost use Rattle.arr_cost.specs.Footprints.{LiesWithin};
     ghost use Rattle.arr_cost.specs.declared.footprints.Row.{Row};
 
     ghost Value = { List Row };
 
     ghost view = { λ f. f.rows.items };
 
-    ghost invariant = { λ f. length f.rows.items ≤ 64 };
+    ghost invariant = { λ f. LiesWithin f.rows.items f.from f.upto };
 }
 
 /// The bit of a touch's class, if it is one of the 64 from the first on.
@@ -128,6 +132,39 @@ fn row_of(touches: &Touches, bases: &[usize], first: usize) -> Row
     }
 }
 
+/// How many rows in front touch nothing.
+fn blank_front(rows: &[Row]) -> usize
+    ensures { (i : ℕ) → i < result → get_or rows.now i blank ≡ blank }
+{
+    let mut at = 0;
+    while at < rows.len() && rows[at].is_blank() {
+        at += 1;
+    }
+    at
+}
+
+/// Where the rows begin behind which none touches anything.
+fn blank_rest(rows: &[Row]) -> usize
+    ensures inside { result ≤ length rows.now }
+    ensures behind { (i : ℕ) → result ≤ i → get_or rows.now i blank ≡ blank }
+{
+    let mut end = rows.len();
+    while end > 0 && rows[end - 1].is_blank() {
+        end -= 1;
+    }
+    end
+}
+
+/// Rows as a footprint.
+fn framed(rows: Vec<Row>) -> Footprint
+    requires { length rows.items ≤ 64 }
+    ensures { result ≡ rows.items }
+{
+    let from = blank_front(rows.as_slice());
+    let upto = blank_rest(rows.as_slice());
+    Footprint { rows, from, upto }
+}
+
 /// What the block of one operation touches, told the base of each class.
 pub(crate) fn footprint_of(
     alloc: Global,
@@ -145,10 +182,17 @@ pub(crate) fn footprint_of(
     for index in 0..bases.len() / 64 + 1 {
         rows.push(row_of(touches, bases, 64 * index))?;
     }
-    Ok(Footprint { rows })
+    Ok(framed(rows))
 }
 
 impl Row {
+    /// Whether none of its classes is touched.
+    fn is_blank(&self) -> bool
+        ensures { result ≡ is_blank self.now }
+    {
+        self.reads == 0 && self.writes == 0 && self.makes == 0 && self.frees == 0
+    }
+
     /// What two blocks do as one.
     fn joined(&self, other: &Row) -> Row
         ensures { result ≡ join self.now other.now }
@@ -216,14 +260,20 @@ fn add_weights(weights: &[u64], first: usize, word: u64, sum: u64) -> u64
     total
 }
 
-/// What the classes weigh that both blocks touch outside themselves, and those that the two as one don't.
-fn saved_weight(weights: &[u64], a: &[Row], b: &[Row]) -> u64
+/// What the classes weigh that both blocks touch outside themselves, and those that the two as one don't. Before one row, and from
+/// another on, one of the two touches nothing.
+fn saved_weight(weights: &[u64], a: &[Row], b: &[Row], from: usize, upto: usize) -> u64
     requires each { All (λ w. w ≤ 8388608) weights.now }
     requires few { length a.now ≤ 64 }
+    requires first { upto ≤ length a.now }
+    requires second { upto ≤ length b.now }
+    requires rising { from ≤ upto }
+    requires front { (i : ℕ) → i < from → IsIdle a.now b.now i }
+    requires behind { (i : ℕ) → upto ≤ i → IsIdle a.now b.now i }
     ensures { result ≡ saved_by weights.now a.now b.now }
 {
     let mut sum = 0;
-    for index in 0..a.len().min(b.len()) {
+    for index in from..upto {
         let shared = a[index].shared(&b[index]);
         let lost = a[index].lost(&b[index]);
         let some = add_weights(weights, 64 * index, shared, sum);
@@ -241,7 +291,7 @@ impl Footprint {
         for index in 0..self.rows.len().min(other.rows.len()) {
             rows.push(self.rows[index].joined(&other.rows[index]))?;
         }
-        Ok(Footprint { rows })
+        Ok(framed(rows))
     }
 
     /// What the two blocks save as one, told what each class weighs.
@@ -249,6 +299,14 @@ impl Footprint {
         requires { All (λ w. w ≤ 8388608) weights.now }
         ensures { result ≡ saved_by weights.now self.now other.now }
     {
-        saved_weight(weights, self.rows.as_slice(), other.rows.as_slice())
+        let upto = self.upto.min(other.upto);
+        let from = self.from.max(other.from).min(upto);
+        saved_weight(
+            weights,
+            self.rows.as_slice(),
+            other.rows.as_slice(),
+            from,
+            upto,
+        )
     }
 }

@@ -1,5 +1,5 @@
-use Rattle.std.proofs.Common.{◌≡◌, ◌+◌, ◌/◌, ap, length, arith}
-use Rattle.arr_cost.specs.Footprints.{bases_of}
+use Rattle.std.proofs.Common.{◌≡◌, ◌+◌, ◌/◌, ◌++◌, ap, length, subst, sym, arith}
+use Rattle.arr_cost.specs.Footprints.{IsFootprint, bases_of}
 use Rattle.arr_cost.proofs.Prints.{footprints_join}
 use Rattle.arr_cost.proofs.footprints.Footprint.joined.Goals as goal
 
@@ -10,4 +10,5 @@ returns c = λ list x y f g.
     let long = c.loop-index.invariant.long in
     let sa : length c.self.inside.rows.items ≡ length c.args.self.now = ap length c.self.view_is in
     let sb : length c.other.inside.rows.items ≡ length c.args.other.now = ap length c.other.view_is in
-    footprints_join list x y c.args.self.now c.args.other.now c.loop-index.rows.items f g (omega arith) (λ k l. c.loop-index.invariant.rows k (omega arith))
+    subst (IsFootprint list (x ++ y)) (sym c.framed.ensures)
+    (footprints_join list x y c.args.self.now c.args.other.now c.loop-index.rows.items f g (omega arith) (λ k l. c.loop-index.invariant.rows k (omega arith)))
