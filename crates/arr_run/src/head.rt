@@ -74,8 +74,7 @@ fn write_certified<K: Sink>(
     requires prepared { Prepares choice number ops.now prepared.now }
     requires formed { is_formed ops.now ≡ true }
     requires few { length ops.now ≤ 256 }
-    ensures { Writes K.Sink sink.old sink.new result
-        (planned_lines number ops.now prepared.now.planned ++ certificate_lines prepared.now.planned.certificate) }
+    ensures { Writes K.Sink sink.old sink.new result (flush_head Listing.Cert number ops.now prepared.now.planned) }
 {
     let Ok(()) = write_planned(choice, number, ops, prepared, sink) else {
         return Err(WriteFault);
