@@ -132,13 +132,13 @@ summed_behind xs x a b c old between new f g = record {
       (rises_behind (rises demo_choice 1 xs f.planned) (rise_of demo_choice (number_after 1 xs) x g.planned) old between new f.counts g.counts);
 }
 
-pub summed_more : (parts : List Part) (i : ℕ) (m now : Memory) (number : ℕ) (x : Part) (a b c : Option (List ℕ)) (old between new : Stored) → Turn parts i m now number x → PartsSummed (take i parts) a b old between
+pub summed_more : {parts : List Part} {i : ℕ} {m now : Memory} {number : ℕ} {x : Part} {a b c : Option (List ℕ)} {old between new : Stored} → Turn parts i m now number x → PartsSummed (take i parts) a b old between
     → PartSummed number x b c between new → PartsSummed (take (i + 1) parts) a c old new
-summed_more parts i m now number x a b c old between new t f g =
+summed_more {parts} {i} {m} {now} {number} {x} {a} {b} {c} {old} {between} {new} t f g =
     subst (λ (ps : List Part). PartsSummed ps a c old new) (sym t.front) (summed_behind (take i parts) x a b c old between new f (subst (λ k. PartSummed k x b c between new) t.number_was g))
 
-pub cut_more : (parts : List Part) (i : ℕ) (m now : Memory) (number : ℕ) (x : Part) (a b c : Option (List ℕ)) (old between : Stored) → Turn parts i m now number x → PartsSummed (take i parts) a b old between → PartCut number x b c → PartsCut parts a c
-cut_more parts i m now number x a b c old between t f given =
+pub cut_more : {parts : List Part} {i : ℕ} {m now : Memory} {number : ℕ} {x : Part} {a b c : Option (List ℕ)} {old between : Stored} → Turn parts i m now number x → PartsSummed (take i parts) a b old between → PartCut number x b c → PartsCut parts a c
+cut_more {parts} {i} {m} {now} {number} {x} {a} {b} {c} {old} {between} t f given =
     let xs : List Part = take i parts in
     let g : PartCut (number_after 1 xs) x b c = subst (λ k. PartCut k x b c) t.number_was given in
     record {
@@ -146,19 +146,22 @@ cut_more parts i m now number x a b c old between t f given =
       wrote = subst (AppendsPart a c) (sym (summary_behind xs x f.planned g.planned)) (part_of_second a b c (summaries 1 xs f.planned) (part_summary (number_after 1 xs) x g.planned) f.wrote g.wrote);
     }
 
-pub broke_more : (parts : List Part) (i : ℕ) (m now : Memory) (number : ℕ) (x : Part) (a b c : Option (List ℕ)) (old between : Stored) → Turn parts i m now number x → PartsSummed (take i parts) a b old between → Appends b c [] → PartsBroke parts a c
-broke_more parts i m now number x a b c old between t f none =
+pub broke_more : {parts : List Part} {i : ℕ} {m now : Memory} {number : ℕ} {x : Part} {a b c : Option (List ℕ)} {old between : Stored} → Turn parts i m now number x → PartsSummed (take i parts) a b old between → Appends b c [] → PartsBroke parts a c
+broke_more {parts} {i} {m} {now} {number} {x} {a} {b} {c} {old} {between} t f none =
     let xs : List Part = take i parts in
     record {
       begun = record { front = xs; rest = x ∷ drop (i + 1) parts; are = sym (append_assoc xs (x ∷ []) (drop (i + 1) parts)) ∙ t.whole; planned = f.planned };
       wrote = subst (Appends a c) (append-nil (summaries 1 xs f.planned)) (Appends-trans a b c (summaries 1 xs f.planned) [] f.wrote none);
     }
 
-pub printed_turn : (parts : List Part) (i : ℕ) (m now : Memory) (number : ℕ) (x : Part) → Turn parts i m now number x → printed_parts m (take i parts) ++ printed_part now x ≡ printed_parts m (take (i + 1) parts)
+printed_turn : (parts : List Part) (i : ℕ) (m now : Memory) (number : ℕ) (x : Part) → Turn parts i m now number x → printed_parts m (take i parts) ++ printed_part now x ≡ printed_parts m (take (i + 1) parts)
 printed_turn parts i m now number x t =
     sym
     (ap (printed_parts m) t.front ∙ printed_more m (take i parts) (x ∷ []) ∙ ap (λ s. printed_parts m (take i parts) ++ s) (append-nil (printed_part (after_parts m (take i parts)) x))
     ∙ ap (λ n. printed_parts m (take i parts) ++ printed_part n x) (sym t.before))
+
+pub adds_turn : {parts : List Part} {i : ℕ} {m now : Memory} {number : ℕ} {x : Part} {a b c : Totals} → Turn parts i m now number x → Adds a b (printed_parts m (take i parts)) → Adds b c (printed_part now x) → Adds a c (printed_parts m (take (i + 1) parts))
+adds_turn {parts} {i} {m} {now} {number} {x} {a} {b} {c} t f g = adds_as a c _ _ (printed_turn parts i m now number x t) (adds_more a b c (printed_parts m (take i parts)) (printed_part now x) f g)
 
 -- ---- a whole demo
 

@@ -1,9 +1,8 @@
 //! A demo: the parts of its script run, and what the plans cost and move is written, and what the arrays sum to (docs/DEMO.md).
-ghost use Rattle.std.specs.Prelude.{◌≡◌, ◌≤◌, ◌<◌, ◌^◌, ◌+◌, ◌-◌, ℕ, [], Some, IfOk, IsErrOf, OnOk, length, true};
+ghost use Rattle.std.specs.Prelude.{◌≡◌, ◌≤◌, ◌<◌, ◌^◌, ◌+◌, ◌-◌, ℕ, [], Some, OnOk, length, true};
 ghost use Rattle.std.specs.List.{list_all};
 ghost use Rattle.std.specs.Io.KnownBytes.{Appends};
 ghost use Rattle.arr_elab.specs.Steps.{printed};
-ghost use Rattle.arr_io.specs.Causes.{Rose};
 ghost use Rattle.arr_listing.specs.Shown.{Shows};
 ghost use Rattle.arr_ops.specs.Fits.{fits};
 ghost use Rattle.arr_ops.specs.Formed.{is_formed};

@@ -1,5 +1,5 @@
 //! What is listed of a flush before its arrays (docs/PLANS.md, "The listing").
-ghost use Rattle.std.specs.Prelude.{◌≡◌, ◌≤◌, ◌++◌, Some, length, true};
+ghost use Rattle.std.specs.Prelude.{◌≡◌, ◌≤◌, Some, length, true};
 ghost use Rattle.arr_cert.specs.Texts.{is_spellable};
 ghost use Rattle.arr_io.specs.Buffered.{Puts, Writes, outgoing};
 ghost use Rattle.arr_law.specs.declared.certificate.Certificate.{Certificate};

@@ -1,5 +1,5 @@
 //! Parts that run on the store one after another.
-ghost use Rattle.std.specs.Prelude.{◌≡◌, ◌≤◌, ◌<◌, ◌*◌, ◌-◌, ◌^◌, true, IsErrOf, OnOk, length};
+ghost use Rattle.std.specs.Prelude.{◌≡◌, ◌≤◌, ◌<◌, ◌-◌, ◌^◌, true, OnOk, length};
 ghost use Rattle.std.specs.List.{list_all};
 ghost use Rattle.arr_ops.specs.Fits.{fits};
 ghost use Rattle.arr_ops.specs.Formed.{is_formed};

@@ -1,5 +1,5 @@
 //! What the program does.
-ghost use Rattle.std.specs.Prelude.{◌≡◌, ◌≤◌, ◌<◌, ◌*◌, ◌^◌, List, ℕ, Option, length, true, None, Some, IsSome};
+ghost use Rattle.std.specs.Prelude.{◌≡◌, ◌≤◌, ◌<◌, ◌^◌, List, ℕ, Option, length, true, None, Some, IsSome};
 ghost use Rattle.std.specs.List.{list_all};
 ghost use Rattle.arr_io.specs.Causes.{Rose};
 ghost use Rattle.arr_elab.specs.declared.step.Step.{Step};
