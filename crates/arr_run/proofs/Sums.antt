@@ -27,7 +27,7 @@ use Rattle.arr_store.specs.Stored.{Stored, memory_of}
 use Rattle.arr_run.specs.declared.demo.Totals.{Totals}
 use Rattle.arr_run.specs.declared.summary.Summary.{Summary}
 use Rattle.arr_run.specs.declared.words.Command.TheVariants.{Demo}
-use Rattle.arr_run.specs.Answers.{Began, Blames, Cut, Done, IsAccepted, IsRun, Served, Serves, demo_text, nothing, summed}
+use Rattle.arr_run.specs.Answers.{Began, Blames, Cut, Done, IsAccepted, IsRun, IsRunStatus, Served, Serves, demo_text, nothing, summed}
 use Rattle.arr_run.specs.Demo.{demo_choice, demo_lines, part_summary, script_line, summaries}
 use Rattle.arr_run.specs.Parts.{AppendsFront, ArePartsOf, Begun}
 use Rattle.arr_run.specs.Pieces.{PlannedPart, PlannedParts, Rises, number_behind, rise_of, rises, sum_of}
@@ -224,7 +224,7 @@ never_refused number text P is h = let a = accepted_demo number in h a.0 (subst 
 
 -- what came of running the parts of a demo's script
 pub record DemoRan (script : List ℕ) (m : Memory) (parts : List Part) (status : ℕ) (old new : Option (List ℕ)) (store after : Stored) : Type 0 where
-  pub known : (status ≡ 0) ⊎ (status ≡ 4) ⊎ (status ≡ 5)
+  pub known : IsRunStatus status
   pub wrote : status ≡ 0 → DemoWrote script m parts old new store after
   pub memory : status ≡ 0 → memory_of after ≡ after_parts m parts
   pub cut : status ≡ 4 → DemoCut script m parts old new
@@ -284,10 +284,10 @@ served_demo number text parts m status old new store after is a e ran script pro
     (nothing, refl, served_parts number parts status old new store after own (subst (λ s. DemoRan s empty parts status old new store after) is ran_empty))
 
 -- without a fault of writing all was done, or memory was wanting
-pub finishes : (status before now : ℕ) → (status ≡ 0) ⊎ (status ≡ 4) ⊎ (status ≡ 5) → (status ≡ 4 → Rose before now) → (Rose before now → ⊥) → (status ≡ 0) ⊎ (status ≡ 5)
+pub finishes : (status before now : ℕ) → IsRunStatus status → (status ≡ 4 → Rose before now) → (Rose before now → ⊥) → (status ≡ 0) ⊎ (status ≡ 5)
 finishes status before now known cause none = ⊎_elim (λ f. inl f) (λ k. ⊎_elim (λ f. absurd (none (cause f))) (λ f. inr f) k) known
 
-pub blames_writes : (status reads proofs before now : ℕ) → (status ≡ 0) ⊎ (status ≡ 4) ⊎ (status ≡ 5) → before ≤ now → (status ≡ 4 → Rose before now) → Blames status reads reads proofs proofs before now
+pub blames_writes : (status reads proofs before now : ℕ) → IsRunStatus status → before ≤ now → (status ≡ 4 → Rose before now) → Blames status reads reads proofs proofs before now
 blames_writes status reads proofs before now known later cause = record {
   read_fault = λ h. absurd (⊎_elim (λ f. omega arith) (λ k. ⊎_elim (λ f. omega arith) (λ f. omega arith) k) known);
   write_fault = cause;
