@@ -2,11 +2,10 @@
 ghost use Rattle.std.specs.Prelude.{◌≡◌, ◌≤◌, ◌<◌, ◌^◌, List, ℕ, Option, length, true, None, Some, IsSome};
 ghost use Rattle.std.specs.List.{list_all};
 ghost use Rattle.arr_io.specs.Causes.{Rose};
-ghost use Rattle.arr_elab.specs.declared.step.Step.{Step};
 ghost use Rattle.arr_record.specs.Runs.{after_parts, each_fits, is_part};
 ghost use Rattle.std.specs.Io.KnownBytes.{IsAtEnd};
 ghost use Rattle.arr_store.specs.Stored.{Stored, cells, memory_of};
-ghost use Rattle.arr_run.specs.Answers.{Accepts, Blames, Finishes, IsRunStatus, NoReadFault, NoWriteFault, OnDemo, ReadsOut, Serves, is_final};
+ghost use Rattle.arr_run.specs.Answers.{Blames, Completes, Finishes, IsRunStatus, NoReadFault, NoWriteFault, OnDemo, ReadsOut, Serves, is_final};
 ghost use Rattle.arr_run.specs.Checking.{Judges};
 ghost use Rattle.arr_run.specs.Parts.{BreaksParts, CountsBelow, Ended, EndsWith, StopsParts, WritesParts};
 ghost use Rattle.arr_run.specs.Summing.{BreaksDemo, CutsDemo, WritesDemo};
@@ -81,9 +80,8 @@ pub fn serve<S: Source, C: Source, K: Sink>(
     ensures blames { Blames result (S.faults script.old) (S.faults script.new) (C.faults proof.old) (C.faults proof.new)
         (K.faults sink.old) (K.faults sink.new) }
     // An accepted script is run or checked, unless a fault or want of memory came.
-    ensures complete { (steps : List Step) → IsSome (command_in words.now) → Accepts (S.left script.old) steps
-        → NoReadFault S.Source script.old script.new → NoReadFault C.Source proof.old proof.new
-        → NoWriteFault K.Sink sink.old sink.new → Finishes (command_in words.now) result }
+    ensures complete { IsSome (command_in words.now) → NoReadFault C.Source proof.old proof.new
+        → Completes S.Source K.Sink script.old script.new sink.old sink.new (command_in words.now) result }
     // A demo is run, unless a fault or want of memory came.
     ensures demo { OnDemo (command_in words.now) (IsRunStatus result) }
     // What was read.
@@ -121,9 +119,8 @@ fn run<S: Source, K: Sink>(
     ensures emptied { result ≡ 0 → (b : ℕ) → cells store.new b ≡ None }
     ensures blames { (proofs : ℕ) → Blames result (S.faults script.old) (S.faults script.new) proofs proofs
         (K.faults sink.old) (K.faults sink.new) }
-    ensures complete { (steps : List Step) → Accepts (S.left script.old) steps
-        → NoReadFault S.Source script.old script.new → NoWriteFault K.Sink sink.old sink.new
-        → Finishes (Some (Command.Run choice)) result }
+    ensures complete { Completes S.Source K.Sink script.old script.new sink.old sink.new
+        (Some (Command.Run choice)) result }
     ensures read_out { ReadsOut S.Source script.old script.new result }
 {
     let bytes = match read_up_to(alloc, script, MOST_BYTES as u64 + 1) {
@@ -229,9 +226,8 @@ fn check_script<S: Source, C: Source, K: Sink>(
         result (K.written sink.old) (K.written sink.new) store store }
     ensures blames { Blames result (S.faults script.old) (S.faults script.new) (C.faults proof.old) (C.faults proof.new)
         (K.faults sink.old) (K.faults sink.new) }
-    ensures complete { (steps : List Step) → Accepts (S.left script.old) steps
-        → NoReadFault S.Source script.old script.new → NoReadFault C.Source proof.old proof.new
-        → NoWriteFault K.Sink sink.old sink.new → Finishes (Some Command.Check) result }
+    ensures complete { NoReadFault C.Source proof.old proof.new
+        → Completes S.Source K.Sink script.old script.new sink.old sink.new (Some Command.Check) result }
     ensures read_out { ReadsOut S.Source script.old script.new result }
     ensures proof_out { result ≡ 0 → IsAtEnd (C.left proof.new) }
 {
