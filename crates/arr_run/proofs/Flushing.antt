@@ -6,7 +6,6 @@ use Rattle.std.proofs.lemmas.List.{take-append-le}
 use Rattle.std.specs.List.{flat_map}
 use Rattle.std.specs.Io.KnownBytes.{Appends}
 use Rattle.arr_io.specs.Taken.{AppendsPart}
-use Rattle.arr_elab.specs.Steps.{printed}
 use Rattle.arr_listing.specs.Plans.{plan_text}
 use Rattle.arr_listing.specs.Texts.{array_text}
 use Rattle.arr_ops.specs.Costs.{block_cost, cost}
@@ -23,7 +22,7 @@ use Rattle.arr_rewrite.proofs.Laws.{normal_fits, normal_keeps}
 use Rattle.arr_store.specs.Stored.{Stored, memory_of}
 use Rattle.arr_run.specs.declared.flush.RunFault.{RunFault}
 use Rattle.arr_run.specs.declared.flush.RunFault.TheVariants.{WriteFault, NoMemory}
-use Rattle.arr_run.specs.Flushes.{Moves}
+use Rattle.arr_run.specs.Flushes.{Moves, arrays_text}
 use Rattle.arr_run.specs.Parts.{AppendsFront, CutIn, OnRan, RisesBy, Wrote}
 use Rattle.arr_run.specs.declared.planning.Planned.{Planned}
 use Rattle.arr_run.specs.Pieces.{Rise, Rises, Segment, bound_line, plan_lines, plan_rise, planned_lines}
@@ -39,7 +38,7 @@ pub record Stands (m : Memory) (ops list : List Op) : Type 0 where
   pub fitting : fits m list ≡ true
   pub same : eager m list ≡ eager m ops
   pub show : AllShow (eager m list).slots list
-  pub text : slots_text (eager m list).slots list ≡ flat_map array_text (printed m ops)
+  pub text : slots_text (eager m list).slots list ≡ arrays_text m ops
 
 pub stands : (m : Memory) (ops list : List Op) → list ≡ normal_form ops → is_formed ops ≡ true → fits m ops ≡ true → Stands m ops list
 stands m ops list is formed fit =

@@ -27,7 +27,7 @@ use Rattle.arr_store.specs.Stored.{Stored, memory_of}
 use Rattle.arr_run.specs.declared.demo.Totals.{Totals}
 use Rattle.arr_run.specs.declared.summary.Summary.{Summary}
 use Rattle.arr_run.specs.declared.words.Command.TheVariants.{Demo}
-use Rattle.arr_run.specs.Answers.{Began, Blames, Cut, Done, IsAccepted, IsRun, Served, Serves, demo_text, nothing, summed}
+use Rattle.arr_run.specs.Answers.{Began, Blames, Cut, Done, IsAccepted, IsRun, IsRunStatus, Served, Serves, demo_text, nothing, summed}
 use Rattle.arr_run.specs.Demo.{demo_choice, demo_lines, part_summary, script_line, summaries}
 use Rattle.arr_run.specs.Parts.{AppendsFront, ArePartsOf, Begun}
 use Rattle.arr_run.specs.Pieces.{PlannedPart, PlannedParts, Rises, number_behind, rise_of, rises, sum_of}
@@ -132,13 +132,13 @@ summed_behind xs x a b c old between new f g = record {
       (rises_behind (rises demo_choice 1 xs f.planned) (rise_of demo_choice (number_after 1 xs) x g.planned) old between new f.counts g.counts);
 }
 
-pub summed_more : (parts : List Part) (i : ℕ) (m now : Memory) (number : ℕ) (x : Part) (a b c : Option (List ℕ)) (old between new : Stored) → Turn parts i m now number x → PartsSummed (take i parts) a b old between
+pub summed_more : {parts : List Part} {i : ℕ} {m now : Memory} {number : ℕ} {x : Part} {a b c : Option (List ℕ)} {old between new : Stored} → Turn parts i m now number x → PartsSummed (take i parts) a b old between
     → PartSummed number x b c between new → PartsSummed (take (i + 1) parts) a c old new
-summed_more parts i m now number x a b c old between new t f g =
+summed_more {parts} {i} {m} {now} {number} {x} {a} {b} {c} {old} {between} {new} t f g =
     subst (λ (ps : List Part). PartsSummed ps a c old new) (sym t.front) (summed_behind (take i parts) x a b c old between new f (subst (λ k. PartSummed k x b c between new) t.number_was g))
 
-pub cut_more : (parts : List Part) (i : ℕ) (m now : Memory) (number : ℕ) (x : Part) (a b c : Option (List ℕ)) (old between : Stored) → Turn parts i m now number x → PartsSummed (take i parts) a b old between → PartCut number x b c → PartsCut parts a c
-cut_more parts i m now number x a b c old between t f given =
+pub cut_more : {parts : List Part} {i : ℕ} {m now : Memory} {number : ℕ} {x : Part} {a b c : Option (List ℕ)} {old between : Stored} → Turn parts i m now number x → PartsSummed (take i parts) a b old between → PartCut number x b c → PartsCut parts a c
+cut_more {parts} {i} {m} {now} {number} {x} {a} {b} {c} {old} {between} t f given =
     let xs : List Part = take i parts in
     let g : PartCut (number_after 1 xs) x b c = subst (λ k. PartCut k x b c) t.number_was given in
     record {
@@ -146,19 +146,22 @@ cut_more parts i m now number x a b c old between t f given =
       wrote = subst (AppendsPart a c) (sym (summary_behind xs x f.planned g.planned)) (part_of_second a b c (summaries 1 xs f.planned) (part_summary (number_after 1 xs) x g.planned) f.wrote g.wrote);
     }
 
-pub broke_more : (parts : List Part) (i : ℕ) (m now : Memory) (number : ℕ) (x : Part) (a b c : Option (List ℕ)) (old between : Stored) → Turn parts i m now number x → PartsSummed (take i parts) a b old between → Appends b c [] → PartsBroke parts a c
-broke_more parts i m now number x a b c old between t f none =
+pub broke_more : {parts : List Part} {i : ℕ} {m now : Memory} {number : ℕ} {x : Part} {a b c : Option (List ℕ)} {old between : Stored} → Turn parts i m now number x → PartsSummed (take i parts) a b old between → Appends b c [] → PartsBroke parts a c
+broke_more {parts} {i} {m} {now} {number} {x} {a} {b} {c} {old} {between} t f none =
     let xs : List Part = take i parts in
     record {
       begun = record { front = xs; rest = x ∷ drop (i + 1) parts; are = sym (append_assoc xs (x ∷ []) (drop (i + 1) parts)) ∙ t.whole; planned = f.planned };
       wrote = subst (Appends a c) (append-nil (summaries 1 xs f.planned)) (Appends-trans a b c (summaries 1 xs f.planned) [] f.wrote none);
     }
 
-pub printed_turn : (parts : List Part) (i : ℕ) (m now : Memory) (number : ℕ) (x : Part) → Turn parts i m now number x → printed_parts m (take i parts) ++ printed_part now x ≡ printed_parts m (take (i + 1) parts)
+printed_turn : (parts : List Part) (i : ℕ) (m now : Memory) (number : ℕ) (x : Part) → Turn parts i m now number x → printed_parts m (take i parts) ++ printed_part now x ≡ printed_parts m (take (i + 1) parts)
 printed_turn parts i m now number x t =
     sym
     (ap (printed_parts m) t.front ∙ printed_more m (take i parts) (x ∷ []) ∙ ap (λ s. printed_parts m (take i parts) ++ s) (append-nil (printed_part (after_parts m (take i parts)) x))
     ∙ ap (λ n. printed_parts m (take i parts) ++ printed_part n x) (sym t.before))
+
+pub adds_turn : {parts : List Part} {i : ℕ} {m now : Memory} {number : ℕ} {x : Part} {a b c : Totals} → Turn parts i m now number x → Adds a b (printed_parts m (take i parts)) → Adds b c (printed_part now x) → Adds a c (printed_parts m (take (i + 1) parts))
+adds_turn {parts} {i} {m} {now} {number} {x} {a} {b} {c} t f g = adds_as a c _ _ (printed_turn parts i m now number x t) (adds_more a b c (printed_parts m (take i parts)) (printed_part now x) f g)
 
 -- ---- a whole demo
 
@@ -221,7 +224,7 @@ never_refused number text P is h = let a = accepted_demo number in h a.0 (subst 
 
 -- what came of running the parts of a demo's script
 pub record DemoRan (script : List ℕ) (m : Memory) (parts : List Part) (status : ℕ) (old new : Option (List ℕ)) (store after : Stored) : Type 0 where
-  pub known : (status ≡ 0) ⊎ (status ≡ 4) ⊎ (status ≡ 5)
+  pub known : IsRunStatus status
   pub wrote : status ≡ 0 → DemoWrote script m parts old new store after
   pub memory : status ≡ 0 → memory_of after ≡ after_parts m parts
   pub cut : status ≡ 4 → DemoCut script m parts old new
@@ -281,10 +284,10 @@ served_demo number text parts m status old new store after is a e ran script pro
     (nothing, refl, served_parts number parts status old new store after own (subst (λ s. DemoRan s empty parts status old new store after) is ran_empty))
 
 -- without a fault of writing all was done, or memory was wanting
-pub finishes : (status before now : ℕ) → (status ≡ 0) ⊎ (status ≡ 4) ⊎ (status ≡ 5) → (status ≡ 4 → Rose before now) → (Rose before now → ⊥) → (status ≡ 0) ⊎ (status ≡ 5)
+pub finishes : (status before now : ℕ) → IsRunStatus status → (status ≡ 4 → Rose before now) → (Rose before now → ⊥) → (status ≡ 0) ⊎ (status ≡ 5)
 finishes status before now known cause none = ⊎_elim (λ f. inl f) (λ k. ⊎_elim (λ f. absurd (none (cause f))) (λ f. inr f) k) known
 
-pub blames_writes : (status reads proofs before now : ℕ) → (status ≡ 0) ⊎ (status ≡ 4) ⊎ (status ≡ 5) → before ≤ now → (status ≡ 4 → Rose before now) → Blames status reads reads proofs proofs before now
+pub blames_writes : (status reads proofs before now : ℕ) → IsRunStatus status → before ≤ now → (status ≡ 4 → Rose before now) → Blames status reads reads proofs proofs before now
 blames_writes status reads proofs before now known later cause = record {
   read_fault = λ h. absurd (⊎_elim (λ f. omega arith) (λ k. ⊎_elim (λ f. omega arith) (λ f. omega arith) k) known);
   write_fault = cause;

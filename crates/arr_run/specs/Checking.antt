@@ -1,6 +1,8 @@
 -- What checking has read of a proof and written, list by list.
-use Rattle.std.specs.Prelude.{ℕ, suc, ◌≡◌, ◌⊎◌, ◌≤◌, IsErrOf, List, [], length, map, take, Option, Result, Ok, Err}
+use Rattle.std.specs.Prelude.{ℕ, suc, ◌≡◌, ◌⊎◌, ◌≤◌, IsErrOf, List, [], ◌∷◌, length, map, take, Option, Result, Ok, Err}
 use Rattle.std.specs.Io.KnownBytes.{Appends}
+use Rattle.arr_io.specs.declared.sink.Sink.{Ghosts as Sinks}
+use Rattle.arr_io.specs.declared.source.Source.{Ghosts as Sources}
 use Rattle.arr_io.specs.Causes.{Rose}
 use Rattle.arr_io.specs.Taken.{AppendsPart}
 use Rattle.arr_ops.specs.declared.op.Op.{Op}
@@ -55,12 +57,21 @@ abbrev pub Checks : List Part → List Part → Unread → Unread → Option (Li
 Checks parts left u v old new (Ok number) = Checking parts left number u v old new
 Checks parts left u v old new (Err e) = Stopping parts u old new e
 
+-- From where checking stands before a part of the next number to where it stands after it, whatever went before.
+abbrev pub ChecksPart : Part → ℕ → Unread → Unread → Option (List ℕ) → Option (List ℕ) → Result ℕ Stop → Type 0
+ChecksPart part number v w old new result =
+    (parts left : List Part) (u : Unread) (before : Option (List ℕ)) → Checking parts (part ∷ left) number u v before old → Checks parts left u w before new result
+
 -- Neither count of faults has fallen, and a fault is answered only where its own rose.
 pub record Traced (T : Type 0) (result : Result T Stop) (reads reads_now writes writes_now : ℕ) : Type 0 where
   pub read_fault : IsErrOf result stop.ReadFault → Rose reads reads_now
   pub write_fault : IsErrOf result stop.WriteFault → Rose writes writes_now
   pub reads_later : reads ≤ reads_now
   pub writes_later : writes ≤ writes_now
+
+-- so by a source and a sink before and after
+abbrev pub Traces : {S K T : Type 0} → Sources S → Sinks K → S → S → K → K → Result T Stop → Type 0
+Traces s k proof proof' sink sink' result = Traced _ result (s.faults proof) (s.faults proof') (k.faults sink) (k.faults sink')
 
 -- ---- all of a proof
 

@@ -3,13 +3,14 @@ use Rattle.std.specs.Prelude.{◌≡◌, ◌+◌, ℕ, suc, List, ◌++◌, Opti
 use Rattle.std.specs.List.{flat_map}
 use Rattle.std.specs.Option.{option_to_list}
 use Rattle.std.specs.Io.KnownBytes.{Appends}
+use Rattle.arr_io.specs.declared.sink.Sink.{Ghosts}
 use Rattle.arr_io.specs.Taken.{AppendsPart}
 use Rattle.arr_listing.specs.Totals.{totals_text}
 use Rattle.arr_ops.specs.declared.op.Op.{Op}
 use Rattle.arr_ops.specs.Memory.{Memory, Slot}
 use Rattle.arr_record.specs.declared.part.Part.{Part}
 use Rattle.arr_record.specs.Runs.{printed_parts}
-use Rattle.arr_store.specs.Stored.{Stored}
+use Rattle.arr_store.specs.Stored.{Stored, memory_of}
 use Rattle.arr_run.specs.declared.demo.Totals.{Totals}
 use Rattle.arr_run.specs.Demo.{demo_choice, demo_lines, part_summary, summaries}
 use Rattle.arr_run.specs.Parts.{AppendsFront, Begun}
@@ -78,3 +79,13 @@ pub record DemoCut (script : List ℕ) (m : Memory) (parts : List Part) (old new
 pub record DemoBroke (script : List ℕ) (m : Memory) (parts : List Part) (old new : Option (List ℕ)) : Type 0 where
   pub begun : Begun demo_choice parts
   pub wrote : AppendsFront old new (demo_lines script begun.front begun.planned (printed_parts m parts))
+
+-- these three of a call, by its sink and its store before and after
+abbrev pub WritesDemo : {K : Type 0} → Ghosts K → List ℕ → List Part → K → K → Stored → Stored → Type 0
+WritesDemo g script parts old new store after = DemoWrote script (memory_of store) parts (g.written old) (g.written new) store after
+
+abbrev pub CutsDemo : {K : Type 0} → Ghosts K → List ℕ → List Part → K → K → Stored → Type 0
+CutsDemo g script parts old new store = DemoCut script (memory_of store) parts (g.written old) (g.written new)
+
+abbrev pub BreaksDemo : {K : Type 0} → Ghosts K → List ℕ → List Part → K → K → Stored → Type 0
+BreaksDemo g script parts old new store = DemoBroke script (memory_of store) parts (g.written old) (g.written new)

@@ -1,17 +1,15 @@
 //! A proof that is checked against the parts of a script, list by list (docs/CERTIFICATES.md, "Rejections").
-ghost use Rattle.std.specs.Prelude.{◌≡◌, ◌⊎◌, ◌≤◌, ◌<◌, ◌+◌, ◌-◌, ◌^◌, ℕ, List, [], ◌∷◌, true, false, Option, Err, IfOk, IfErr, OnOk, IsErrOf, length};
+ghost use Rattle.std.specs.Prelude.{◌≡◌, ◌⊎◌, ◌≤◌, ◌<◌, ◌+◌, ◌-◌, ◌^◌, [], true, false, Err, IfOk, IfErr, OnOk, IsErrOf, length};
 ghost use Rattle.std.specs.List.{list_all};
 ghost use Rattle.std.specs.Io.KnownBytes.{Appends, IsAtEnd};
 ghost use Rattle.arr_io.specs.Causes.{Rose};
 ghost use Rattle.arr_io.specs.Taken.{AppendsPart};
 ghost use Rattle.arr_ops.specs.Formed.{is_formed};
-ghost use Rattle.arr_record.specs.declared.part.Part.{Part};
 ghost use Rattle.arr_record.specs.Runs.{is_part};
 ghost use Rattle.arr_rewrite.specs.NormalForm.{normal_form};
-ghost use Rattle.arr_cert.specs.Reading.{Unread};
 ghost use Rattle.arr_run.specs.Checked.{flush_line};
 ghost use Rattle.arr_cert.specs.Proofs.{HasMetEnd, is_over, unread};
-ghost use Rattle.arr_run.specs.Checking.{Checking, Checks, ChecksProof, Judged, Traced};
+ghost use Rattle.arr_run.specs.Checking.{Checks, ChecksPart, ChecksProof, Judged, Traces};
 
 use crate::texts::flush_line;
 use arr_cert::{CheckFault, Reader};
@@ -75,11 +73,10 @@ fn check_list<C: Source, K: Sink>(
     requires going { is_over reader.old ≡ false }
     requires met { HasMetEnd C.Source reader.old proof.old }
     ensures judged { Judged (normal_form ops.now) number (unread C.Source reader.old proof.old)
-        (unread C.Source reader.new proof.new)
-        (K.written sink.old) (K.written sink.new) result }
+        (unread C.Source reader.new proof.new) (K.written sink.old) (K.written sink.new) result }
     ensures going { OnOk result (is_over reader.new ≡ false) }
     ensures met { HasMetEnd C.Source reader.new proof.new }
-    ensures traced { Traced _ result (C.faults proof.old) (C.faults proof.new) (K.faults sink.old) (K.faults sink.new) }
+    ensures traced { Traces C.Source K.Sink proof.old proof.new sink.old sink.new result }
 {
     let Ok(list) = rewrite(alloc, ops) else {
         return Err(Stop::NoMemory);
@@ -109,13 +106,12 @@ fn check_part<C: Source, K: Sink>(
     requires few { number < 2 ^ 32 - 1 }
     requires going { is_over reader.old ≡ false }
     requires met { HasMetEnd C.Source reader.old proof.old }
-    ensures checks { (parts left : List Part) (u : Unread) (before : Option (List ℕ))
-        → Checking parts (part.now ∷ left) number u (unread C.Source reader.old proof.old) before (K.written sink.old)
-        → Checks parts left u (unread C.Source reader.new proof.new) before (K.written sink.new) result }
+    ensures checks { ChecksPart part.now number (unread C.Source reader.old proof.old)
+        (unread C.Source reader.new proof.new) (K.written sink.old) (K.written sink.new) result }
     ensures next { IfOk result (λ next. next ≤ number + 1) }
     ensures going { OnOk result (is_over reader.new ≡ false) }
     ensures met { HasMetEnd C.Source reader.new proof.new }
-    ensures traced { Traced _ result (C.faults proof.old) (C.faults proof.new) (K.faults sink.old) (K.faults sink.new) }
+    ensures traced { Traces C.Source K.Sink proof.old proof.new sink.old sink.new result }
 {
     match part {
         Part::Flush(ops) => {
@@ -144,7 +140,7 @@ fn check_flushes<C: Source, K: Sink>(
     ensures next { IfOk result (λ next. next ≤ length parts.now + 1) }
     ensures going { OnOk result (is_over reader.new ≡ false) }
     ensures met { HasMetEnd C.Source reader.new proof.new }
-    ensures traced { Traced _ result (C.faults proof.old) (C.faults proof.new) (K.faults sink.old) (K.faults sink.new) }
+    ensures traced { Traces C.Source K.Sink proof.old proof.new sink.old sink.new result }
 {
     let mut number = 1;
     for part in parts {
@@ -165,7 +161,7 @@ pub(crate) fn check_parts<C: Source, K: Sink>(
     requires few { length parts.now ≤ 4_194_304 }
     ensures checks { ChecksProof parts.now (C.left proof.old) (K.written sink.old) (K.written sink.new) result }
     ensures ended { OnOk result (IsAtEnd (C.left proof.new)) }
-    ensures traced { Traced _ result (C.faults proof.old) (C.faults proof.new) (K.faults sink.old) (K.faults sink.new) }
+    ensures traced { Traces C.Source K.Sink proof.old proof.new sink.old sink.new result }
 {
     let Ok(mut reader) = Reader::new(alloc) else {
         return Err(Stop::NoMemory);

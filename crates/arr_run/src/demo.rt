@@ -1,9 +1,8 @@
 //! A demo: the parts of its script run, and what the plans cost and move is written, and what the arrays sum to (docs/DEMO.md).
-ghost use Rattle.std.specs.Prelude.{◌≡◌, ◌≤◌, ◌<◌, ◌^◌, ◌+◌, ◌-◌, ℕ, [], Some, IfOk, IsErrOf, OnOk, length, true};
+ghost use Rattle.std.specs.Prelude.{◌≡◌, ◌≤◌, ◌<◌, ◌^◌, ◌+◌, ◌-◌, ℕ, [], Some, OnOk, length, true};
 ghost use Rattle.std.specs.List.{list_all};
 ghost use Rattle.std.specs.Io.KnownBytes.{Appends};
 ghost use Rattle.arr_elab.specs.Steps.{printed};
-ghost use Rattle.arr_io.specs.Causes.{Rose};
 ghost use Rattle.arr_listing.specs.Shown.{Shows};
 ghost use Rattle.arr_ops.specs.Fits.{fits};
 ghost use Rattle.arr_ops.specs.Formed.{is_formed};
@@ -15,9 +14,9 @@ ghost use Rattle.arr_rewrite.specs.NormalForm.{normal_form};
 ghost use Rattle.arr_store.specs.Slots.{slots_of};
 ghost use Rattle.arr_store.specs.Stored.{memory_of};
 ghost use Rattle.arr_run.specs.Flushes.{Moves};
-ghost use Rattle.arr_run.specs.Parts.{Caused, CountsBelow, RisesBy};
+ghost use Rattle.arr_run.specs.Parts.{Caused, CountsBelow, OnNoMemory, OnWriteFault, RisesBy};
 ghost use Rattle.arr_run.specs.Shown.{AllShow};
-ghost use Rattle.arr_run.specs.Summing.{Adds, DemoBroke, DemoCut, DemoWrote, PartCut, PartSummed, PartsBroke, PartsCut, PartsSummed, shown_slot, shown_slots};
+ghost use Rattle.arr_run.specs.Summing.{Adds, BreaksDemo, CutsDemo, PartCut, PartSummed, PartsBroke, PartsCut, PartsSummed, WritesDemo, shown_slot, shown_slots};
 
 use crate::choice::{Choice, Fuse, Listing};
 use crate::flush::{RunFault, block_count, run_list};
@@ -121,9 +120,8 @@ fn sum_flush<K: Sink>(
     ensures adds { OnOk result (Adds totals.old totals.new (printed (memory_of store.old) ops.now)) }
     ensures few_arrays { OnOk result (totals.new.count ≤ totals.old.count + 256) }
     ensures cause { Caused (K.faults sink.old) (K.faults sink.new) result }
-    ensures cut { IsErrOf result RunFault.WriteFault
-        → PartCut number (Flush ops.now) (K.written sink.old) (K.written sink.new) }
-    ensures broke { IsErrOf result RunFault.NoMemory → Appends (K.written sink.old) (K.written sink.new) [] }
+    ensures cut { OnWriteFault result (PartCut number (Flush ops.now) (K.written sink.old) (K.written sink.new)) }
+    ensures broke { OnNoMemory result (Appends (K.written sink.old) (K.written sink.new) []) }
 {
     let Ok(prepared) = prepare(alloc, CHOICE, number, ops) else {
         return Err(RunFault::NoMemory);
@@ -173,9 +171,8 @@ fn sum_part<K: Sink>(
     ensures adds { OnOk result (Adds totals.old totals.new (printed_part (memory_of store.old) part.now)) }
     ensures few_arrays { OnOk result (totals.new.count ≤ totals.old.count + 256) }
     ensures cause { Caused (K.faults sink.old) (K.faults sink.new) result }
-    ensures cut { IsErrOf result RunFault.WriteFault
-        → PartCut number part.now (K.written sink.old) (K.written sink.new) }
-    ensures broke { IsErrOf result RunFault.NoMemory → Appends (K.written sink.old) (K.written sink.new) [] }
+    ensures cut { OnWriteFault result (PartCut number part.now (K.written sink.old) (K.written sink.new)) }
+    ensures broke { OnNoMemory result (Appends (K.written sink.old) (K.written sink.new) []) }
 {
     match part {
         Part::Flush(ops) => sum_flush(alloc, number, ops.list(), store, totals, sink),
@@ -201,8 +198,8 @@ fn sum_parts<K: Sink>(
     ensures memory { OnOk result (memory_of store.new ≡ after_parts (memory_of store.old) parts.now) }
     ensures adds { OnOk result (Adds totals.old totals.new (printed_parts (memory_of store.old) parts.now)) }
     ensures cause { Caused (K.faults sink.old) (K.faults sink.new) result }
-    ensures cut { IsErrOf result RunFault.WriteFault → PartsCut parts.now (K.written sink.old) (K.written sink.new) }
-    ensures broke { IsErrOf result RunFault.NoMemory → PartsBroke parts.now (K.written sink.old) (K.written sink.new) }
+    ensures cut { OnWriteFault result (PartsCut parts.now (K.written sink.old) (K.written sink.new)) }
+    ensures broke { OnNoMemory result (PartsBroke parts.now (K.written sink.old) (K.written sink.new)) }
 {
     let mut number = 1;
     for part in parts {
@@ -224,14 +221,11 @@ pub(crate) fn run_demo<K: Sink>(
     requires fitting { each_fits (memory_of store.old) parts.now ≡ true }
     requires few { length parts.now ≤ 4_194_304 }
     requires counts { CountsBelow (2 ^ 59) store.old }
-    ensures wrote { OnOk result (DemoWrote script.now (memory_of store.old) parts.now
-        (K.written sink.old) (K.written sink.new) store.old store.new) }
+    ensures wrote { OnOk result (WritesDemo K.Sink script.now parts.now sink.old sink.new store.old store.new) }
     ensures memory { OnOk result (memory_of store.new ≡ after_parts (memory_of store.old) parts.now) }
     ensures cause { Caused (K.faults sink.old) (K.faults sink.new) result }
-    ensures cut { IsErrOf result RunFault.WriteFault
-        → DemoCut script.now (memory_of store.old) parts.now (K.written sink.old) (K.written sink.new) }
-    ensures broke { IsErrOf result RunFault.NoMemory
-        → DemoBroke script.now (memory_of store.old) parts.now (K.written sink.old) (K.written sink.new) }
+    ensures cut { OnWriteFault result (CutsDemo K.Sink script.now parts.now sink.old sink.new store.old) }
+    ensures broke { OnNoMemory result (BreaksDemo K.Sink script.now parts.now sink.old sink.new store.old) }
 {
     let Ok(line) = script_line(alloc, script) else {
         return Err(RunFault::NoMemory);

@@ -1,9 +1,6 @@
 //! One flush: its list is rewritten, planned and listed, runs block by block, and what it prints is written.
-ghost use Rattle.std.specs.Prelude.{◌≡◌, ◌^◌, ◌≤◌, ℕ, IfOk, IsErrOf, OnOk, Some, length, true};
-ghost use Rattle.std.specs.List.{flat_map};
-ghost use Rattle.arr_elab.specs.Steps.{printed};
+ghost use Rattle.std.specs.Prelude.{◌≡◌, ◌^◌, ◌≤◌, ℕ, IfOk, OnOk, Some, length, true};
 ghost use Rattle.arr_listing.specs.Shown.{Shows};
-ghost use Rattle.arr_listing.specs.Texts.{array_text};
 ghost use Rattle.arr_io.specs.Buffered.{Puts, Writes, outgoing};
 ghost use Rattle.arr_ops.specs.Fits.{fits};
 ghost use Rattle.arr_ops.specs.Formed.{is_formed};
@@ -13,10 +10,8 @@ ghost use Rattle.arr_rewrite.specs.NormalForm.{normal_form};
 ghost use Rattle.arr_store.specs.Slots.{slots_of};
 ghost use Rattle.arr_store.specs.Stored.{memory_of};
 ghost use Rattle.arr_record.specs.declared.part.Part.TheVariants.{Flush};
-ghost use Rattle.arr_run.specs.Flushes.{Moves, Reports, flush_segment, planned_in};
-ghost use Rattle.std.specs.Io.KnownBytes.{Appends};
-ghost use Rattle.arr_run.specs.Parts.{Caused, CountsBelow, OnRan, PartBroke, PartStopped, RisesBy, Wrote};
-ghost use Rattle.arr_run.specs.Pieces.{segment_text};
+ghost use Rattle.arr_run.specs.Flushes.{Moves, Reports, WritesFlush, arrays_text};
+ghost use Rattle.arr_run.specs.Parts.{BreaksPart, Caused, CountsBelow, OnNoMemory, OnRan, OnWriteFault, RisesBy, StopsPart, Wrote};
 ghost use Rattle.arr_run.specs.Shown.{AllShow, slot_text, slots_text};
 
 use crate::choice::Choice;
@@ -151,7 +146,7 @@ fn run_prepared<K: Sink>(
     requires few { length ops.now ≤ MOST }
     requires counts { CountsBelow (2 ^ 60) store.old }
     ensures wrote { Wrote result (K.written sink.old) (K.written sink.new)
-        (flat_map array_text (printed (memory_of store.old) ops.now)) }
+        (arrays_text (memory_of store.old) ops.now) }
     ensures cause { Caused (K.faults sink.old) (K.faults sink.new) result }
     ensures memory { OnRan result (memory_of store.new ≡ without_slots (eager (memory_of store.old) ops.now)) }
     ensures moved { OnRan result (Moves (normal_form ops.now) prepared.now.planned.plan store.old store.new) }
@@ -189,16 +184,13 @@ pub fn flush_once<K: Sink>(
     requires few { length ops.now ≤ MOST }
     requires counts { CountsBelow (2 ^ 60) store.old }
     ensures report { IfOk result (Reports choice number ops.now store.old store.new) }
-    ensures wrote { IfOk result (λ report. Appends (K.written sink.old) (K.written sink.new)
-        (segment_text (flush_segment choice number (memory_of store.old) ops.now (planned_in report)))) }
+    ensures wrote { IfOk result (WritesFlush K.Sink choice number ops.now sink.old sink.new store.old) }
     ensures memory { OnOk result (memory_of store.new ≡ without_slots (eager (memory_of store.old) ops.now)) }
     ensures counts { OnOk result (RisesBy (2 ^ 32) store.old store.new) }
     ensures cause { Caused (K.faults sink.old) (K.faults sink.new) result }
-    ensures stopped { IsErrOf result RunFault.WriteFault
-        → PartStopped choice number (memory_of store.old) (Flush ops.now)
-        (K.written sink.old) (K.written sink.new) store.old store.new }
-    ensures broke { IsErrOf result RunFault.NoMemory → PartBroke choice number (memory_of store.old) (Flush ops.now)
-        (K.written sink.old) (K.written sink.new) }
+    ensures stopped { OnWriteFault result (StopsPart K.Sink choice number (Flush ops.now)
+        sink.old sink.new store.old store.new) }
+    ensures broke { OnNoMemory result (BreaksPart K.Sink choice number (Flush ops.now) sink.old sink.new store.old) }
 {
     let Ok(prepared) = prepare(alloc, choice, number, ops) else {
         return Err(RunFault::NoMemory);

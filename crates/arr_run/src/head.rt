@@ -1,5 +1,5 @@
 //! What is listed of a flush before its arrays (docs/PLANS.md, "The listing").
-ghost use Rattle.std.specs.Prelude.{◌≡◌, ◌≤◌, ◌++◌, Some, length, true};
+ghost use Rattle.std.specs.Prelude.{◌≡◌, ◌≤◌, Some, length, true};
 ghost use Rattle.arr_cert.specs.Texts.{is_spellable};
 ghost use Rattle.arr_io.specs.Buffered.{Puts, Writes, outgoing};
 ghost use Rattle.arr_law.specs.declared.certificate.Certificate.{Certificate};
@@ -74,8 +74,7 @@ fn write_certified<K: Sink>(
     requires prepared { Prepares choice number ops.now prepared.now }
     requires formed { is_formed ops.now ≡ true }
     requires few { length ops.now ≤ 256 }
-    ensures { Writes K.Sink sink.old sink.new result
-        (planned_lines number ops.now prepared.now.planned ++ certificate_lines prepared.now.planned.certificate) }
+    ensures { Writes K.Sink sink.old sink.new result (flush_head Listing.Cert number ops.now prepared.now.planned) }
 {
     let Ok(()) = write_planned(choice, number, ops, prepared, sink) else {
         return Err(WriteFault);

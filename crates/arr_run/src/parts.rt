@@ -1,5 +1,5 @@
 //! Parts that run on the store one after another.
-ghost use Rattle.std.specs.Prelude.{◌≡◌, ◌≤◌, ◌<◌, ◌*◌, ◌-◌, ◌^◌, true, IsErrOf, OnOk, length};
+ghost use Rattle.std.specs.Prelude.{◌≡◌, ◌≤◌, ◌<◌, ◌-◌, ◌^◌, true, OnOk, length};
 ghost use Rattle.std.specs.List.{list_all};
 ghost use Rattle.arr_ops.specs.Fits.{fits};
 ghost use Rattle.arr_ops.specs.Formed.{is_formed};
@@ -8,7 +8,7 @@ ghost use Rattle.arr_record.specs.declared.part.Part.TheVariants.{Flush};
 ghost use Rattle.arr_ops.specs.Gathers.{gather_fits, gathered, is_gather, is_scatter, scatter_fits, scattered};
 ghost use Rattle.arr_record.specs.Runs.{after_part, after_parts, each_fits, is_part, part_fits};
 ghost use Rattle.arr_store.specs.Stored.{memory_of};
-ghost use Rattle.arr_run.specs.Parts.{BrokeIn, Caused, CountsBelow, PartBroke, PartStopped, PartWrote, PartsWrote, RisesBy, StoppedIn};
+ghost use Rattle.arr_run.specs.Parts.{BreaksPart, BreaksParts, Caused, CountsBelow, OnNoMemory, OnWriteFault, RisesBy, StopsPart, StopsParts, WritesPart, WritesParts};
 ghost use Rattle.arr_run.specs.Pieces.{Rises, gather_rise, number_behind, scatter_rise};
 
 use crate::choice::Choice;
@@ -28,7 +28,7 @@ pub(crate) fn run_gather(alloc: Global, op: &Gather, store: &mut Store) -> Resul
     ensures memory { OnOk result (memory_of store.new ≡ gathered (memory_of store.old) op.now) }
     ensures rises { OnOk result (Rises (gather_rise op.now) store.old store.new) }
     ensures counts { OnOk result (RisesBy (2 ^ 32) store.old store.new) }
-    ensures silent { IsErrOf result RunFault.WriteFault → ⊥ }
+    ensures silent { OnWriteFault result ⊥ }
 {
     match gather(alloc, op, store) {
         Ok(()) => Ok(()),
@@ -44,7 +44,7 @@ pub(crate) fn run_scatter(alloc: Global, op: &Scatter, store: &mut Store) -> Res
     ensures memory { OnOk result (memory_of store.new ≡ scattered (memory_of store.old) op.now) }
     ensures rises { OnOk result (Rises (scatter_rise op.now) store.old store.new) }
     ensures counts { OnOk result (RisesBy (2 ^ 32) store.old store.new) }
-    ensures silent { IsErrOf result RunFault.WriteFault → ⊥ }
+    ensures silent { OnWriteFault result ⊥ }
 {
     match scatter(alloc, op, store) {
         Ok(()) => Ok(()),
@@ -77,16 +77,14 @@ fn run_flush<K: Sink>(
     requires fitting { fits (memory_of store.old) ops.now ≡ true }
     requires few { length ops.now ≤ 256 }
     requires counts { CountsBelow (2 ^ 60) store.old }
-    ensures wrote { OnOk result (PartWrote choice number (memory_of store.old) (Flush ops.now)
-        (K.written sink.old) (K.written sink.new) store.old store.new) }
+    ensures wrote { OnOk result (WritesPart K.Sink choice number (Flush ops.now)
+        sink.old sink.new store.old store.new) }
     ensures cause { Caused (K.faults sink.old) (K.faults sink.new) result }
     ensures memory { OnOk result (memory_of store.new ≡ without_slots (eager (memory_of store.old) ops.now)) }
     ensures counts { OnOk result (RisesBy (2 ^ 32) store.old store.new) }
-    ensures stopped { IsErrOf result RunFault.WriteFault
-        → PartStopped choice number (memory_of store.old) (Flush ops.now)
-        (K.written sink.old) (K.written sink.new) store.old store.new }
-    ensures broke { IsErrOf result RunFault.NoMemory → PartBroke choice number (memory_of store.old) (Flush ops.now)
-        (K.written sink.old) (K.written sink.new) }
+    ensures stopped { OnWriteFault result (StopsPart K.Sink choice number (Flush ops.now)
+        sink.old sink.new store.old store.new) }
+    ensures broke { OnNoMemory result (BreaksPart K.Sink choice number (Flush ops.now) sink.old sink.new store.old) }
 {
     flush_once(alloc, store, number, ops, choice, sink)?;
     Ok(())
@@ -104,15 +102,13 @@ fn run_part<K: Sink>(
     requires part { is_part part.now ≡ true }
     requires fitting { part_fits (memory_of store.old) part.now ≡ true }
     requires counts { CountsBelow (2 ^ 60) store.old }
-    ensures wrote { OnOk result (PartWrote choice number (memory_of store.old) part.now
-        (K.written sink.old) (K.written sink.new) store.old store.new) }
+    ensures wrote { OnOk result (WritesPart K.Sink choice number part.now sink.old sink.new store.old store.new) }
     ensures cause { Caused (K.faults sink.old) (K.faults sink.new) result }
     ensures memory { OnOk result (memory_of store.new ≡ after_part (memory_of store.old) part.now) }
     ensures counts { OnOk result (RisesBy (2 ^ 32) store.old store.new) }
-    ensures stopped { IsErrOf result RunFault.WriteFault → PartStopped choice number (memory_of store.old) part.now
-        (K.written sink.old) (K.written sink.new) store.old store.new }
-    ensures broke { IsErrOf result RunFault.NoMemory → PartBroke choice number (memory_of store.old) part.now
-        (K.written sink.old) (K.written sink.new) }
+    ensures stopped { OnWriteFault result (StopsPart K.Sink choice number part.now
+        sink.old sink.new store.old store.new) }
+    ensures broke { OnNoMemory result (BreaksPart K.Sink choice number part.now sink.old sink.new store.old) }
 {
     match part {
         Part::Flush(ops) => run_flush(alloc, choice, number, ops.list(), store, sink),
@@ -133,15 +129,11 @@ pub(crate) fn run_parts<K: Sink>(
     requires fitting { each_fits (memory_of store.old) parts.now ≡ true }
     requires few { length parts.now ≤ 4_194_304 }
     requires counts { CountsBelow (2 ^ 59) store.old }
-    ensures wrote { OnOk result (PartsWrote choice (memory_of store.old) parts.now
-        (K.written sink.old) (K.written sink.new) store.old store.new) }
+    ensures wrote { OnOk result (WritesParts K.Sink choice parts.now sink.old sink.new store.old store.new) }
     ensures cause { Caused (K.faults sink.old) (K.faults sink.new) result }
     ensures memory { OnOk result (memory_of store.new ≡ after_parts (memory_of store.old) parts.now) }
-    ensures stopped { IsErrOf result RunFault.WriteFault
-        → StoppedIn choice (memory_of store.old) parts.now (K.written sink.old)
-        (K.written sink.new) store.old store.new }
-    ensures broke { IsErrOf result RunFault.NoMemory
-        → BrokeIn choice (memory_of store.old) parts.now (K.written sink.old) (K.written sink.new) }
+    ensures stopped { OnWriteFault result (StopsParts K.Sink choice parts.now sink.old sink.new store.old store.new) }
+    ensures broke { OnNoMemory result (BreaksParts K.Sink choice parts.now sink.old sink.new store.old) }
 {
     let mut number = 1;
     for part in parts {

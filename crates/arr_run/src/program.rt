@@ -1,18 +1,16 @@
 //! What the program does.
-ghost use Rattle.std.specs.Prelude.{◌≡◌, ◌⊎◌, ◌≤◌, ◌<◌, ◌*◌, ◌^◌, List, ℕ, Option, map, length, true, None, Some, IsSome, IfOk};
+ghost use Rattle.std.specs.Prelude.{◌≡◌, ◌≤◌, ◌<◌, ◌^◌, List, ℕ, Option, length, true, None, Some, IsSome};
 ghost use Rattle.std.specs.List.{list_all};
-ghost use Rattle.std.specs.String.{string_bytes};
 ghost use Rattle.arr_io.specs.Causes.{Rose};
-ghost use Rattle.arr_elab.specs.declared.step.Step.{Step};
 ghost use Rattle.arr_record.specs.Runs.{after_parts, each_fits, is_part};
 ghost use Rattle.std.specs.Io.KnownBytes.{IsAtEnd};
 ghost use Rattle.arr_store.specs.Stored.{Stored, cells, memory_of};
-ghost use Rattle.arr_run.specs.Answers.{Accepts, Blames, Finishes, HasRead, IsReadOut, Serves, is_final};
+ghost use Rattle.arr_run.specs.Answers.{Blames, Completes, Finishes, IsRunStatus, NoReadFault, NoWriteFault, OnDemo, ReadsOut, Serves, is_final};
 ghost use Rattle.arr_run.specs.Checking.{Judges};
-ghost use Rattle.arr_run.specs.Parts.{BrokeIn, CountsBelow, Ended, PartsWrote, StoppedIn};
-ghost use Rattle.arr_run.specs.Summing.{DemoBroke, DemoCut, DemoWrote};
+ghost use Rattle.arr_run.specs.Parts.{BreaksParts, CountsBelow, Ended, EndsWith, StopsParts, WritesParts};
+ghost use Rattle.arr_run.specs.Summing.{BreaksDemo, CutsDemo, WritesDemo};
 ghost use Rattle.arr_run.specs.Texts.{refusal_text};
-ghost use Rattle.arr_run.specs.Words.{command_of};
+ghost use Rattle.arr_run.specs.Words.{command_in};
 
 use crate::checking::{Stop, check_parts};
 use crate::choice::Choice;
@@ -75,30 +73,23 @@ pub fn serve<S: Source, C: Source, K: Sink>(
     requires stores { store.old.stores < 2 ^ 59 }
     requires made { store.old.made < 2 ^ 59 }
     // What was written, and what the store is then.
-    ensures served { Serves (command_of (map string_bytes words.now)) (S.left script.old) (C.left proof.old)
-        result (K.written sink.old) (K.written sink.new) store.old store.new }
+    ensures served { Serves (command_in words.now) (S.left script.old) (C.left proof.old) result
+        (K.written sink.old) (K.written sink.new) store.old store.new }
     ensures emptied { result ≡ 0 → (b : ℕ) → cells store.new b ≡ None }
     // Every fault has its cause.
     ensures blames { Blames result (S.faults script.old) (S.faults script.new) (C.faults proof.old) (C.faults proof.new)
         (K.faults sink.old) (K.faults sink.new) }
     // An accepted script is run or checked, unless a fault or want of memory came.
-    ensures complete { (steps : List Step) → IsSome (command_of (map string_bytes words.now))
-        → Accepts (S.left script.old) steps
-        → (Rose (S.faults script.old) (S.faults script.new) → ⊥) → (Rose (C.faults proof.old) (C.faults proof.new) → ⊥)
-        → (Rose (K.faults sink.old) (K.faults sink.new) → ⊥)
-        → Finishes (command_of (map string_bytes words.now)) result }
+    ensures complete { IsSome (command_in words.now) → NoReadFault C.Source proof.old proof.new
+        → Completes S.Source K.Sink script.old script.new sink.old sink.new (command_in words.now) result }
     // A demo is run, unless a fault or want of memory came.
-    ensures demo { (number : ℕ) → command_of (map string_bytes words.now) ≡ Some (Command.Demo number)
-        → (result ≡ 0) ⊎ (result ≡ 4) ⊎ (result ≡ 5) }
+    ensures demo { OnDemo (command_in words.now) (IsRunStatus result) }
     // What was read.
-    ensures read_out { ((number : ℕ) → command_of (map string_bytes words.now) ≡ Some (Command.Demo number) → ⊥)
-        → HasRead result → IsReadOut (S.left script.old) (S.left script.new) }
-    ensures proof_out { result ≡ 0 → command_of (map string_bytes words.now) ≡ Some Command.Check
-        → IsAtEnd (C.left proof.new) }
-    ensures script { command_of (map string_bytes words.now) ≡ None → script.new ≡ script.old }
-    ensures unread { (number : ℕ) → command_of (map string_bytes words.now) ≡ Some (Command.Demo number) → script.new
-        ≡ script.old }
-    ensures proof { (command_of (map string_bytes words.now) ≡ Some Command.Check → ⊥) → proof.new ≡ proof.old }
+    ensures read_out { OnDemo (command_in words.now) ⊥ → ReadsOut S.Source script.old script.new result }
+    ensures proof_out { result ≡ 0 → command_in words.now ≡ Some Command.Check → IsAtEnd (C.left proof.new) }
+    ensures script { command_in words.now ≡ None → script.new ≡ script.old }
+    ensures unread { OnDemo (command_in words.now) (script.new ≡ script.old) }
+    ensures proof { (command_in words.now ≡ Some Command.Check → ⊥) → proof.new ≡ proof.old }
 {
     match named_command(words) {
         Some(Command::Run(choice)) => run(alloc, choice, store, script, sink),
@@ -128,10 +119,9 @@ fn run<S: Source, K: Sink>(
     ensures emptied { result ≡ 0 → (b : ℕ) → cells store.new b ≡ None }
     ensures blames { (proofs : ℕ) → Blames result (S.faults script.old) (S.faults script.new) proofs proofs
         (K.faults sink.old) (K.faults sink.new) }
-    ensures complete { (steps : List Step) → Accepts (S.left script.old) steps
-        → (Rose (S.faults script.old) (S.faults script.new) → ⊥) → (Rose (K.faults sink.old) (K.faults sink.new) → ⊥)
-        → (result ≡ 0) ⊎ (result ≡ 5) }
-    ensures read_out { HasRead result → IsReadOut (S.left script.old) (S.left script.new) }
+    ensures complete { Completes S.Source K.Sink script.old script.new sink.old sink.new
+        (Some (Command.Run choice)) result }
+    ensures read_out { ReadsOut S.Source script.old script.new result }
 {
     let bytes = match read_up_to(alloc, script, MOST_BYTES as u64 + 1) {
         Ok(bytes) => bytes,
@@ -158,17 +148,13 @@ fn run_all<K: Sink>(
     requires fitting { each_fits (memory_of store.old) parts.now ≡ true }
     requires few { length parts.now ≤ 4_194_304 }
     requires counts { CountsBelow (2 ^ 59) store.old }
-    ensures known { (result ≡ 0) ⊎ (result ≡ 4) ⊎ (result ≡ 5) }
-    ensures wrote { result ≡ 0 → PartsWrote choice (memory_of store.old) parts.now
-        (K.written sink.old) (K.written sink.new) store.old store.new }
+    ensures known { IsRunStatus result }
+    ensures wrote { result ≡ 0 → WritesParts K.Sink choice parts.now sink.old sink.new store.old store.new }
     ensures later { K.faults sink.old ≤ K.faults sink.new }
     ensures cause { result ≡ 4 → Rose (K.faults sink.old) (K.faults sink.new) }
     ensures memory { result ≡ 0 → memory_of store.new ≡ after_parts (memory_of store.old) parts.now }
-    ensures stopped { result ≡ 4
-        → StoppedIn choice (memory_of store.old) parts.now (K.written sink.old)
-        (K.written sink.new) store.old store.new }
-    ensures broke { result ≡ 5 → BrokeIn choice (memory_of store.old) parts.now (K.written sink.old)
-        (K.written sink.new) }
+    ensures stopped { result ≡ 4 → StopsParts K.Sink choice parts.now sink.old sink.new store.old store.new }
+    ensures broke { result ≡ 5 → BreaksParts K.Sink choice parts.now sink.old sink.new store.old }
 {
     match run_parts(alloc, choice, parts, store, sink) {
         Ok(()) => DONE,
@@ -185,11 +171,11 @@ fn demo<K: Sink>(alloc: Global, number: u64, store: &mut Store, sink: &mut K) ->
     requires made { store.old.made < 2 ^ 59 }
     ensures served { (script proof : Option (List ℕ)) → Serves (Some (Command.Demo number)) script proof
         result (K.written sink.old) (K.written sink.new) store.old store.new }
-    ensures known { (result ≡ 0) ⊎ (result ≡ 4) ⊎ (result ≡ 5) }
+    ensures known { IsRunStatus result }
     ensures emptied { result ≡ 0 → (b : ℕ) → cells store.new b ≡ None }
     ensures blames { (reads proofs : ℕ)
         → Blames result reads reads proofs proofs (K.faults sink.old) (K.faults sink.new) }
-    ensures complete { (Rose (K.faults sink.old) (K.faults sink.new) → ⊥) → (result ≡ 0) ⊎ (result ≡ 5) }
+    ensures complete { NoWriteFault K.Sink sink.old sink.new → Finishes (Some (Command.Demo number)) result }
 {
     let Ok(script) = demo_script(alloc, number) else {
         return OUT_OF_MEMORY;
@@ -214,16 +200,13 @@ fn sum_all<K: Sink>(
     requires fitting { each_fits (memory_of store.old) parts.now ≡ true }
     requires few { length parts.now ≤ 4_194_304 }
     requires counts { CountsBelow (2 ^ 59) store.old }
-    ensures known { (result ≡ 0) ⊎ (result ≡ 4) ⊎ (result ≡ 5) }
-    ensures wrote { result ≡ 0 → DemoWrote script.now (memory_of store.old) parts.now
-        (K.written sink.old) (K.written sink.new) store.old store.new }
+    ensures known { IsRunStatus result }
+    ensures wrote { result ≡ 0 → WritesDemo K.Sink script.now parts.now sink.old sink.new store.old store.new }
     ensures later { K.faults sink.old ≤ K.faults sink.new }
     ensures cause { result ≡ 4 → Rose (K.faults sink.old) (K.faults sink.new) }
     ensures memory { result ≡ 0 → memory_of store.new ≡ after_parts (memory_of store.old) parts.now }
-    ensures cut { result ≡ 4 → DemoCut script.now (memory_of store.old) parts.now (K.written sink.old)
-        (K.written sink.new) }
-    ensures broke { result ≡ 5 → DemoBroke script.now (memory_of store.old) parts.now (K.written sink.old)
-        (K.written sink.new) }
+    ensures cut { result ≡ 4 → CutsDemo K.Sink script.now parts.now sink.old sink.new store.old }
+    ensures broke { result ≡ 5 → BreaksDemo K.Sink script.now parts.now sink.old sink.new store.old }
 {
     match run_demo(alloc, script, parts, store, sink) {
         Ok(()) => DONE,
@@ -243,10 +226,9 @@ fn check_script<S: Source, C: Source, K: Sink>(
         result (K.written sink.old) (K.written sink.new) store store }
     ensures blames { Blames result (S.faults script.old) (S.faults script.new) (C.faults proof.old) (C.faults proof.new)
         (K.faults sink.old) (K.faults sink.new) }
-    ensures complete { (steps : List Step) → Accepts (S.left script.old) steps
-        → (Rose (S.faults script.old) (S.faults script.new) → ⊥) → (Rose (C.faults proof.old) (C.faults proof.new) → ⊥)
-        → (Rose (K.faults sink.old) (K.faults sink.new) → ⊥) → (result ≡ 0) ⊎ (result ≡ 5) ⊎ (result ≡ 6) }
-    ensures read_out { HasRead result → IsReadOut (S.left script.old) (S.left script.new) }
+    ensures complete { NoReadFault C.Source proof.old proof.new
+        → Completes S.Source K.Sink script.old script.new sink.old sink.new (Some Command.Check) result }
+    ensures read_out { ReadsOut S.Source script.old script.new result }
     ensures proof_out { result ≡ 0 → IsAtEnd (C.left proof.new) }
 {
     let bytes = match read_up_to(alloc, script, MOST_BYTES as u64 + 1) {
@@ -294,8 +276,7 @@ fn refuse<K: Sink>(alloc: Global, refusal: Refusal, sink: &mut K) -> u8
 /// Writes the last line, and answers the status that stands for it.
 fn end_with<K: Sink>(line: Result<Vec<u8>, NoMemory>, status: u8, sink: &mut K) -> u8
     requires whole { is_final status ≡ true }
-    ensures ended { (text : List ℕ) → IfOk line (λ found. found.items ≡ text)
-        → Ended status result (K.written sink.old) (K.written sink.new) text }
+    ensures ended { EndsWith K.Sink status result sink.old sink.new line }
     ensures later { K.faults sink.old ≤ K.faults sink.new }
     ensures cause { result ≡ 4 → Rose (K.faults sink.old) (K.faults sink.new) }
 {

@@ -1,19 +1,15 @@
-use Rattle.std.proofs.Common.{◌≡◌, ◌*◌, ◌^◌, ◌+◌, ◌≤◌, drop, take, true}
-use Rattle.arr_record.specs.Runs.{after_parts, each_fits}
+use Rattle.std.proofs.Common.{◌*◌, ◌^◌, ◌+◌, ◌≤◌, take}
 use Rattle.arr_store.specs.Stored.{memory_of}
 use Rattle.arr_run.specs.Parts.{PartsWrote, RisesBy}
-use Rattle.arr_run.proofs.Turns.{number_after}
+use Rattle.arr_run.proofs.Turns.{Reached}
 use Rattle.arr_run.proofs.parts.run_parts.Given as goal
 
 abbrev pub invariant-loop-part : goal.invariant-loop-part
 invariant-loop-part g l =
     let before = memory_of l.initial.store in
-    let now = memory_of l.store in
     record {
-      fitting : each_fits now (drop l.part-index l.parts) ≡ true;
+      reached : Reached l.parts l.part-index before (memory_of l.store) l.number;
       wrote : PartsWrote l.choice before (take l.part-index l.parts) (g.K.Sink.written l.initial.sink) (g.K.Sink.written l.sink) l.initial.store l.store;
-      memory : now ≡ after_parts before (take l.part-index l.parts);
-      number : l.number ≡ number_after 1 (take l.part-index l.parts);
       few : l.number ≤ l.part-index + 1;
       counts : RisesBy (l.part-index * 2 ^ 32) l.initial.store l.store;
       later : g.K.Sink.faults l.initial.sink ≤ g.K.Sink.faults l.sink;
