@@ -112,8 +112,12 @@ power at of exponent = do
   x ← array of
   pending at x.view.lengths (operation code.Power x.elem x.elem (taken x.view) (Some (operand.Number (wrap elem.U64 (pos exponent)))) None)
 
+-- an operation of two operands of one type
+abbrev pub of_two : Code → Elem → Operand → Operand → Op
+of_two code elem x y = operation code (result_type code elem) elem (Some x) (Some y) None
+
 abbrev pub paired : Place → Code → Elem → List ℕ → Operand → Operand → Reading Prepared
-paired at code elem lengths x y = pending at lengths (operation code (result_type code elem) elem (Some x) (Some y) None)
+paired at code elem lengths x y = pending at lengths (of_two code elem x y)
 
 -- of a literal and an array, of an array and a literal, of two arrays
 abbrev pub joined : Place → Code → Value → Value → Reading Prepared

@@ -1,5 +1,5 @@
 -- What a script does: its steps, or the first refusal.
-use Rattle.std.specs.Prelude.{◌≡◌, ℕ, List, [], ◌∷◌, false, not, ◌||◌, nat_lt, length, if◌then◌else◌, Option, Some, None, is_some, Ok}
+use Rattle.std.specs.Prelude.{◌≡◌, ℕ, List, [], ◌∷◌, Bool, false, not, ◌||◌, nat_lt, length, if◌then◌else◌, Option, Some, None, is_some, Ok}
 use Rattle.std.specs.List.{count_by}
 use Rattle.arr_num.specs.declared.code.Code.TheVariants as code
 use Rattle.arr_num.specs.Numbers.{in_type}
@@ -82,11 +82,15 @@ bound names = count_by is_bound names
 abbrev pub set_name : List ℕ → Option Array → Reading (Unit {0})
 set_name name array = λ s. Ok (tt, record s { names = with_name s.names name array })
 
+-- the name is bound, or fewer than so many are
+abbrev pub may_bind : Names → List ℕ → Bool
+may_bind names name = is_some (stands_for names name) || nat_lt (bound names) most_names
+
 -- no more than so many names are bound at once
 abbrev pub bind : Word → Array → Reading (Unit {0})
 bind word array = do
   s ← known
-  require (is_some (stands_for s.names word.text) || nat_lt (bound s.names) most_names) word.at TooManyNames
+  require (may_bind s.names word.text) word.at TooManyNames
   set_name word.text (Some array)
   step (Name (number_of s.names word.text) array.view.base)
 

@@ -1,5 +1,5 @@
 -- The totals that are kept while a script is read: how many names stand for each base, and the live elements.
-use Rattle.std.specs.Prelude.{◌≡◌, ◌≤◌, ℕ, suc, ◌+◌, ◌-◌, List, [], ◌∷◌, Bool, true, Option, Some, None, is_some, length, IsTrue, ◌||◌, ◌&&◌, nat_lt, nat_le, cond, map, get_or, slice_set}
+use Rattle.std.specs.Prelude.{◌≡◌, ◌≤◌, ℕ, suc, ◌+◌, ◌-◌, List, [], ◌∷◌, ◌++◌, Bool, true, Option, Some, None, is_some, length, IsTrue, ◌||◌, ◌&&◌, nat_lt, nat_le, cond, map, get_or, slice_set}
 use Rattle.arr_elab.specs.declared.bases.Base.{Base}
 use Rattle.arr_elab.specs.declared.value.Array.{Array}
 use Rattle.std.specs.List.{count_by, list_all}
@@ -46,6 +46,10 @@ may_hold held b =
 
 abbrev pub may_release : Held → ℕ → Bool
 may_release held b = nat_lt b (length held.list) && nat_lt 0 (base_at held b).names
+
+-- one more base of so many elements, for which no name stands
+abbrev pub with_more : Held → ℕ → Held
+with_more held count = record { list = held.list ++ (record { length = count; names = 0 }) ∷ []; first = held.first }
 
 -- another base in the place of one
 abbrev pub with_base : Held → ℕ → Base → Held

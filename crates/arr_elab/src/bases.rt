@@ -1,8 +1,8 @@
 //! The bases of a script so far, with how many names stand for each, and the live elements.
 
-ghost use Rattle.std.specs.Prelude.{◌≡◌, ◌<◌, ◌≤◌, ◌+◌, ◌-◌, [], ◌∷◌, ◌++◌, OnErr, OnOk, get_or, length, not, nat_lt, slice_set, IsTrue};
+ghost use Rattle.std.specs.Prelude.{◌≡◌, ◌<◌, ◌≤◌, ◌+◌, ◌-◌, [], OnErr, OnOk, get_or, length, not, nat_lt, slice_set, IsTrue};
 ghost use Rattle.arr_elab.specs.State.{most_live};
-ghost use Rattle.arr_elab.specs.Totals.{hold, hold_if, lengths, live_by, may_hold, may_hold_if, may_release, may_release_if, release, release_if, weight, with_base};
+ghost use Rattle.arr_elab.specs.Totals.{hold, hold_if, lengths, live_by, may_hold, may_hold_if, may_release, may_release_if, release, release_if, weight, with_base, with_more};
 
 use arr_overlap::NoMemory;
 use std::alloc::Global;
@@ -86,8 +86,7 @@ impl Bases {
     /// Makes a base of so many elements, for which no name stands.
     pub(crate) fn make(&mut self, count: u32) -> Result<(), NoMemory>
         requires { live_by self.old.first 0 self.old.list + count ≤ most_live }
-        ensures made { OnOk result (self.new
-            ≡ record { list = self.old.list ++ (record { length = count; names = 0 }) ∷ []; first = self.old.first }) }
+        ensures made { OnOk result (self.new ≡ with_more self.old count) }
         ensures unchanged { OnErr result (self.new ≡ self.old) }
     {
         let _live = self.live;

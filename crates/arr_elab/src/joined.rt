@@ -1,8 +1,7 @@
 //! Binary operations, and arrays of one number.
 
-ghost use Rattle.std.specs.Prelude.{◌≡◌, Some, None};
+ghost use Rattle.std.specs.Prelude.{◌≡◌};
 ghost use Rattle.arr_elab.specs.declared.value.Prepared.TheVariants.{Open};
-ghost use Rattle.arr_elab.specs.Codes.{result_type as type_of_result};
 ghost use Rattle.arr_elab.specs.declared.value.Value.TheVariants as value;
 ghost use Rattle.arr_elab.specs.Contract.{Reads};
 ghost use Rattle.arr_elab.specs.State.{State};
@@ -20,12 +19,7 @@ use arr_tree::{Kind, Place};
 
 /// An operation of two operands of one type.
 fn paired(at: Place, code: Code, elem: Elem, shape: ArrayShape, x: Operand, y: Operand) -> Prepared
-    ensures { result ≡ Open (record {
-      at = at;
-      shape = shape;
-      op = spec.operation code (type_of_result code elem) elem
-          (Some x) (Some y) None;
-    }) }
+    ensures { result ≡ Open (record { at = at; shape = shape; op = spec.of_two code elem x y }) }
 {
     let to = result_type(code, elem);
     pending(at, shape, operation(code, to, elem, Some(x), Some(y), None))

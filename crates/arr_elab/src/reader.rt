@@ -1,12 +1,12 @@
 //! What is known while a script is read, and the steps so far.
 
-ghost use Rattle.std.specs.Prelude.{◌≡◌, ◌<◌, ◌||◌, get_or, length, is_some, nat_lt, IfOk, IsTrue};
+ghost use Rattle.std.specs.Prelude.{◌≡◌, ◌<◌, get_or, length, IfOk, IsTrue};
 ghost use Rattle.arr_shape.specs.Shapes.{checked_shape};
 ghost use Rattle.arr_elab.specs.Contract.{Reads};
 ghost use Rattle.arr_elab.specs.State as spec;
-ghost use Rattle.arr_elab.specs.State.{most_names, nothing_yet, number_of, stands_for};
+ghost use Rattle.arr_elab.specs.State.{nothing_yet, number_of, stands_for};
 ghost use Rattle.arr_elab.specs.Expressions.{lookup};
-ghost use Rattle.arr_elab.specs.Outcome.{bind, bound, forget, set_name};
+ghost use Rattle.arr_elab.specs.Outcome.{bind, forget, may_bind, set_name};
 ghost use Rattle.arr_elab.specs.Outcome as outcome;
 ghost use Rattle.arr_elab.specs.Totals.{base_of, has_place, is_there};
 
@@ -176,7 +176,7 @@ impl Reader {
 
     /// Whether a name may be bound: it is bound already, or fewer than 1,024 are.
     fn may_bind(&self, name: &[u8]) -> bool
-        ensures { result ≡ (is_some (stands_for self.now.names name.now) || nat_lt (bound self.now.names) most_names) }
+        ensures { result ≡ may_bind self.now.names name.now }
     {
         self.names.get(name).is_some() || self.names.bound() < MOST_NAMES
     }

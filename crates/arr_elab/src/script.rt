@@ -1,9 +1,7 @@
 //! The statements of a script, one after another.
 
-ghost use Rattle.std.specs.Prelude.{◌≡◌, IfErr, IfOk, Err, Ok, true};
-ghost use Rattle.arr_tree.specs.declared.refusal.Refusal.{Refusal};
-ghost use Rattle.arr_elab.specs.declared.fault.ElabFault.TheVariants.{Refused};
-ghost use Rattle.arr_elab.specs.Contract.{Reads};
+ghost use Rattle.std.specs.Prelude.{◌≡◌, IfErr, IfOk, Ok, true};
+ghost use Rattle.arr_elab.specs.Contract.{Reads, RefusedBy};
 ghost use Rattle.arr_elab.specs.Outcome as spec;
 ghost use Rattle.arr_elab.specs.Outcome.{IsBegun, IsReached};
 ghost use Rattle.arr_elab.specs.Recording.{is_recording};
@@ -99,8 +97,7 @@ fn statements(alloc: Global, reader: &mut Reader, mut rest: &[Statement]) -> Res
 /// target that has an element twice, or too many names (docs/LANGUAGE.md, "Refusals"). Want of memory is the only other answer.
 pub fn elaborate(alloc: Global, script: &Script) -> Result<Vec<Step>, ElabFault>
     ensures steps { IfOk result (λ steps. spec.outcome script.now.statements ≡ Ok steps.items) }
-    ensures refused { IfErr result
-        (λ fault. (r : Refusal) → fault ≡ Refused r → spec.outcome script.now.statements ≡ Err r) }
+    ensures refused { IfErr result (RefusedBy (spec.outcome script.now.statements)) }
     // What the steps keep to.
     ensures recording { IfOk result (λ steps. is_recording steps.items ≡ true) }
 {

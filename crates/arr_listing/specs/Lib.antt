@@ -1,3 +1,4 @@
+pub mod Calls
 pub mod Texts
 pub mod Plans
 pub mod Shown

@@ -4,12 +4,17 @@ use Rattle.arr_view.specs.Views.{positions}
 use Rattle.arr_ops.specs.declared.op.Op.{Op}
 use Rattle.arr_ops.specs.Formed.{is_array}
 use Rattle.arr_ops.specs.Memory.{Slot, lengths_of}
+use Rattle.arr_store.specs.Slots.{slots_of}
 use Rattle.arr_listing.specs.Texts.{array_text}
 
 -- the numbers of a slot, if it is there
 abbrev pub numbers_of : Option Slot → List ℤ
 numbers_of None = []
 numbers_of (Some s) = s.numbers
+
+-- the numbers of the slot with a number
+abbrev pub slot_numbers : List Slot → ℕ → List ℤ
+slot_numbers slots slot = numbers_of (slots_of slots slot)
 
 -- its text
 abbrev pub shown_text : Option Slot → List ℕ

@@ -106,6 +106,10 @@ abbrev pub spaced : List ℤ → List ℕ
 spaced [] = []
 spaced (n ∷ ns) = signed_decimal n ++ flat_map (λ m. 32 ∷ signed_decimal m) ns
 
+-- so many of the numbers, from a place on
+abbrev pub row_text : ℕ → ℕ → List ℤ → List ℕ
+row_text start width numbers = spaced (take width (drop start numbers))
+
 -- so many lines, of so many numbers each
 abbrev pub rows : ℕ → ℕ → List ℤ → List ℕ
 rows zero width numbers = []

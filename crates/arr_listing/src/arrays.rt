@@ -1,12 +1,13 @@
 //! The lines of an array.
-ghost use Rattle.std.specs.Prelude.{◌≡◌, ◌≤◌, ◌+◌, ◌*◌, true, All, Some, drop, take};
+ghost use Rattle.std.specs.Prelude.{◌≡◌, ◌≤◌, ◌+◌, ◌*◌, true, All, Some};
 ghost use Rattle.std.specs.List.{list_any};
 ghost use Rattle.arr_view.specs.Views.{positions};
 ghost use Rattle.arr_ops.specs.declared.op.Op.{Op};
 ghost use Rattle.arr_store.specs.Slots.{slot_size, slots_of};
-ghost use Rattle.arr_io.specs.Buffered.{Puts, Writes, outgoing};
-ghost use Rattle.arr_listing.specs.Texts.{row_count, row_width, rows, spaced};
-ghost use Rattle.arr_listing.specs.Shown.{Shows, is_slot, numbers_of, shown_text};
+ghost use Rattle.arr_io.specs.Buffered.{Writes};
+ghost use Rattle.arr_listing.specs.Calls.{PutsText};
+ghost use Rattle.arr_listing.specs.Texts.{row_count, row_text, row_width, rows};
+ghost use Rattle.arr_listing.specs.Shown.{Shows, is_slot, shown_text, slot_numbers};
 
 use crate::numbers::{put_number, put_numbers};
 use crate::operations::type_name;
@@ -27,8 +28,8 @@ fn put_row<K: Sink>(
     requires some { 1 ≤ width }
     requires there { start + width ≤ slot_size (slots_of slots.now slot) }
     requires few { start + width ≤ MOST_ELEMENTS }
-    ensures { Puts (outgoing K.Sink out.old sink.old) (outgoing K.Sink out.new sink.new)
-        (spaced (take width (drop start (numbers_of (slots_of slots.now slot))))) }
+    ensures { PutsText K.Sink out.old sink.old out.new sink.new
+        (row_text start width (slot_numbers slots.now slot)) }
 {
     put_number(slots.get(slot, start), out, sink);
     for position in start + 1..start + width {
@@ -49,8 +50,8 @@ fn put_rows<K: Sink>(
     requires some { 1 ≤ width }
     requires there { count * width ≤ slot_size (slots_of slots.now slot) }
     requires few { count * width ≤ MOST_ELEMENTS }
-    ensures { Puts (outgoing K.Sink out.old sink.old) (outgoing K.Sink out.new sink.new)
-        (rows count width (numbers_of (slots_of slots.now slot))) }
+    ensures { PutsText K.Sink out.old sink.old out.new sink.new
+        (rows count width (slot_numbers slots.now slot)) }
 {
     let mut start = 0;
     for row in 0..count {
@@ -77,8 +78,7 @@ fn row_sizes(view: &View) -> (u32, u32)
 /// Puts the array in the slot of a SYNC (docs/PLANS.md, "The listing").
 pub fn put_array<K: Sink>(op: &Op, slot: u32, slots: &Slots, out: &mut SinkBuffer, sink: &mut K)
     requires { Shows op.now (slots_of slots.now slot) }
-    ensures { Puts (outgoing K.Sink out.old sink.old) (outgoing K.Sink out.new sink.new)
-        (shown_text (slots_of slots.now slot)) }
+    ensures { PutsText K.Sink out.old sink.old out.new sink.new (shown_text (slots_of slots.now slot)) }
 {
     let view = array_view(&op.first);
     let (count, width) = row_sizes(view);

@@ -1,7 +1,8 @@
 //! Numbers in decimal.
 ghost use Rattle.std.specs.Prelude.{decimal};
 ghost use Rattle.std.specs.Fmt.{signed_decimal};
-ghost use Rattle.arr_io.specs.Buffered.{Puts, Writes, outgoing};
+ghost use Rattle.arr_io.specs.Buffered.{Writes};
+ghost use Rattle.arr_listing.specs.Calls.{PutsText};
 ghost use Rattle.arr_listing.specs.Texts.{labelled_text, numbers_text};
 
 use arr_io::{Sink, SinkBuffer, WriteFault};
@@ -9,7 +10,7 @@ use itoa::{Buffer, Integer};
 
 /// Puts a number in decimal.
 pub(crate) fn put_number<I: Integer, K: Sink>(number: I, out: &mut SinkBuffer, sink: &mut K)
-    ensures { Puts (outgoing K.Sink out.old sink.old) (outgoing K.Sink out.new sink.new) (I.text number) }
+    ensures { PutsText K.Sink out.old sink.old out.new sink.new (I.text number) }
 {
     let mut buffer = Buffer::new();
     out.put(buffer.format(number).as_bytes(), sink);
@@ -22,8 +23,7 @@ pub(crate) fn put_labelled<I: Integer, K: Sink>(
     out: &mut SinkBuffer,
     sink: &mut K,
 )
-    ensures { Puts (outgoing K.Sink out.old sink.old) (outgoing K.Sink out.new sink.new)
-        (labelled_text I.text label.now number) }
+    ensures { PutsText K.Sink out.old sink.old out.new sink.new (labelled_text I.text label.now number) }
 {
     let Some(number) = number else {
         return;
@@ -34,8 +34,7 @@ pub(crate) fn put_labelled<I: Integer, K: Sink>(
 
 /// Puts numbers, each behind a blank.
 pub(crate) fn put_numbers<K: Sink>(numbers: &[u32], out: &mut SinkBuffer, sink: &mut K)
-    ensures { Puts (outgoing K.Sink out.old sink.old) (outgoing K.Sink out.new sink.new)
-        (numbers_text numbers.now) }
+    ensures { PutsText K.Sink out.old sink.old out.new sink.new (numbers_text numbers.now) }
 {
     for number in numbers {
         out.put(b" ", sink);

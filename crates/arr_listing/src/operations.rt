@@ -1,6 +1,7 @@
 //! The line of an operation.
 ghost use Rattle.std.specs.Prelude.{◌≡◌, ◌<◌, cond, codes, length};
-ghost use Rattle.arr_io.specs.Buffered.{Puts, Writes, outgoing};
+ghost use Rattle.arr_io.specs.Buffered.{Writes};
+ghost use Rattle.arr_listing.specs.Calls.{PutsText};
 ghost use Rattle.arr_listing.specs.Texts.{code_name, dimension_text, dimensions_text, input_text, op_text, operand_text, output_text, type_name, view_text};
 
 use crate::numbers::{put_labelled, put_number};
@@ -62,8 +63,7 @@ fn code_name(code: Code) -> &'static str
 
 /// Puts the length and the stride of a dimension.
 fn put_dimension<K: Sink>(length: u32, stride: i32, out: &mut SinkBuffer, sink: &mut K)
-    ensures { Puts (outgoing K.Sink out.old sink.old) (outgoing K.Sink out.new sink.new)
-        (dimension_text length stride) }
+    ensures { PutsText K.Sink out.old sink.old out.new sink.new (dimension_text length stride) }
 {
     put_number(length, out, sink);
     out.put(b":", sink);
@@ -74,8 +74,7 @@ fn put_dimension<K: Sink>(length: u32, stride: i32, out: &mut SinkBuffer, sink: 
 fn put_dimensions<K: Sink>(lengths: &[u32], strides: &[i32], out: &mut SinkBuffer, sink: &mut K)
     requires some { 0 < length lengths.now }
     requires same_rank { length strides.now ≡ length lengths.now }
-    ensures { Puts (outgoing K.Sink out.old sink.old) (outgoing K.Sink out.new sink.new)
-        (dimensions_text lengths.now strides.now) }
+    ensures { PutsText K.Sink out.old sink.old out.new sink.new (dimensions_text lengths.now strides.now) }
 {
     put_dimension(lengths[0], strides[0], out, sink);
     for axis in 1..lengths.len() {
@@ -86,8 +85,7 @@ fn put_dimensions<K: Sink>(lengths: &[u32], strides: &[i32], out: &mut SinkBuffe
 
 /// Puts a view of a base of the type.
 fn put_view<K: Sink>(elem: Elem, view: &View, out: &mut SinkBuffer, sink: &mut K)
-    ensures { Puts (outgoing K.Sink out.old sink.old) (outgoing K.Sink out.new sink.new)
-        (view_text elem view.now) }
+    ensures { PutsText K.Sink out.old sink.old out.new sink.new (view_text elem view.now) }
 {
     out.put(b"b", sink);
     put_number(view.base(), out, sink);
@@ -115,8 +113,7 @@ fn put_output<K: Sink>(
     out: &mut SinkBuffer,
     sink: &mut K,
 )
-    ensures { Puts (outgoing K.Sink out.old sink.old) (outgoing K.Sink out.new sink.new)
-        (output_text makes elem view.now) }
+    ensures { PutsText K.Sink out.old sink.old out.new sink.new (output_text makes elem view.now) }
 {
     let Some(view) = view else {
         return;
@@ -127,8 +124,7 @@ fn put_output<K: Sink>(
 
 /// Puts a view of a base of the type, or a constant.
 fn put_input<K: Sink>(elem: Elem, operand: &Operand, out: &mut SinkBuffer, sink: &mut K)
-    ensures { Puts (outgoing K.Sink out.old sink.old) (outgoing K.Sink out.new sink.new)
-        (input_text elem operand.now) }
+    ensures { PutsText K.Sink out.old sink.old out.new sink.new (input_text elem operand.now) }
 {
     match operand {
         Operand::Array(view) => put_view(elem, view, out, sink),
@@ -138,8 +134,7 @@ fn put_input<K: Sink>(elem: Elem, operand: &Operand, out: &mut SinkBuffer, sink:
 
 /// Puts an operand, if it is there.
 fn put_operand<K: Sink>(elem: Elem, operand: &Option<Operand>, out: &mut SinkBuffer, sink: &mut K)
-    ensures { Puts (outgoing K.Sink out.old sink.old) (outgoing K.Sink out.new sink.new)
-        (operand_text elem operand.now) }
+    ensures { PutsText K.Sink out.old sink.old out.new sink.new (operand_text elem operand.now) }
 {
     let Some(operand) = operand else {
         return;
@@ -150,8 +145,7 @@ fn put_operand<K: Sink>(elem: Elem, operand: &Option<Operand>, out: &mut SinkBuf
 
 /// Puts the line of an operation with its number (docs/PLANS.md, "The listing").
 pub fn put_op<K: Sink>(number: u64, op: &Op, out: &mut SinkBuffer, sink: &mut K)
-    ensures { Puts (outgoing K.Sink out.old sink.old) (outgoing K.Sink out.new sink.new)
-        (op_text number op.now) }
+    ensures { PutsText K.Sink out.old sink.old out.new sink.new (op_text number op.now) }
 {
     out.put(b"# op ", sink);
     put_number(number, out, sink);

@@ -1,6 +1,7 @@
 //! The lines of a flush: the rewritten list, its plan, and the bound.
 ghost use Rattle.std.specs.Prelude.{◌≡◌, ◌<◌, ◌^◌, ◌==◌, cond, codes, length, map, sum};
-ghost use Rattle.arr_io.specs.Buffered.{Puts, Writes, outgoing};
+ghost use Rattle.arr_io.specs.Buffered.{Writes};
+ghost use Rattle.arr_listing.specs.Calls.{PutsText};
 ghost use Rattle.arr_listing.specs.Plans.{block_text, blocks_text, bound_text, head_text, ops_text, plan_text};
 
 use crate::numbers::{put_number, put_numbers};
@@ -18,8 +19,7 @@ fn put_head<K: Sink>(
     out: &mut SinkBuffer,
     sink: &mut K,
 )
-    ensures { Puts (outgoing K.Sink out.old sink.old) (outgoing K.Sink out.new sink.new)
-        (head_text recorded number left blocks cost) }
+    ensures { PutsText K.Sink out.old sink.old out.new sink.new (head_text recorded number left blocks cost) }
 {
     out.put(b"# flush ", sink);
     put_number(number, out, sink);
@@ -36,7 +36,7 @@ fn put_head<K: Sink>(
 
 /// Puts a line for each operation of a list.
 fn put_ops<K: Sink>(ops: &[Op], out: &mut SinkBuffer, sink: &mut K)
-    ensures { Puts (outgoing K.Sink out.old sink.old) (outgoing K.Sink out.new sink.new) (ops_text 1 ops.now) }
+    ensures { PutsText K.Sink out.old sink.old out.new sink.new (ops_text 1 ops.now) }
 {
     for (index, op) in ops.iter().enumerate() {
         put_op(index as u64 + 1, op, out, sink);
@@ -45,8 +45,7 @@ fn put_ops<K: Sink>(ops: &[Op], out: &mut SinkBuffer, sink: &mut K)
 
 /// Puts the line of a block.
 fn put_block<K: Sink>(number: u64, cost: u64, block: &[u32], out: &mut SinkBuffer, sink: &mut K)
-    ensures { Puts (outgoing K.Sink out.old sink.old) (outgoing K.Sink out.new sink.new)
-        (block_text number cost block.now) }
+    ensures { PutsText K.Sink out.old sink.old out.new sink.new (block_text number cost block.now) }
 {
     out.put(b"# block ", sink);
     put_number(number, out, sink);
@@ -60,7 +59,7 @@ fn put_block<K: Sink>(number: u64, cost: u64, block: &[u32], out: &mut SinkBuffe
 /// Puts a line for each block, with its cost.
 fn put_blocks<K: Sink>(blocks: &[Vec<u32>], costs: &[u64], out: &mut SinkBuffer, sink: &mut K)
     requires { length costs.now ≡ length blocks.now }
-    ensures { Puts (outgoing K.Sink out.old sink.old) (outgoing K.Sink out.new sink.new)
+    ensures { PutsText K.Sink out.old sink.old out.new sink.new
         (blocks_text 1 (map (λ b. b.items) blocks.now) costs.now) }
 {
     for (index, block) in blocks.iter().enumerate() {
@@ -97,7 +96,7 @@ pub fn put_plan<K: Sink>(
 )
     requires same_count { length costs.now ≡ length plan.now }
     requires small { sum costs.now < 2 ^ 40 }
-    ensures { Puts (outgoing K.Sink out.old sink.old) (outgoing K.Sink out.new sink.new)
+    ensures { PutsText K.Sink out.old sink.old out.new sink.new
         (plan_text recorded number ops.now plan.now costs.now) }
 {
     let blocks = blocks_of(plan);
@@ -148,8 +147,7 @@ fn mark(cost: u64, bound: u64) -> &'static str
 
 /// Puts the bound line of a flush (docs/PLANS.md, "The listing"). Cost and bound are in bytes.
 pub fn put_bound<K: Sink>(cost: u64, bound: u64, units: u64, out: &mut SinkBuffer, sink: &mut K)
-    ensures { Puts (outgoing K.Sink out.old sink.old) (outgoing K.Sink out.new sink.new)
-        (bound_text cost bound units) }
+    ensures { PutsText K.Sink out.old sink.old out.new sink.new (bound_text cost bound units) }
 {
     out.put(b"# bound ", sink);
     put_number(bound, out, sink);

@@ -1,7 +1,7 @@
 //! The lines of an array's sum.
 ghost use Rattle.std.specs.Prelude.{◌≡◌, ◌≤◌, ◌++◌, IfOk, OnOk};
 ghost use Rattle.arr_store.specs.Slots.{slot_size, slots_of};
-ghost use Rattle.arr_listing.specs.Shown.{Shows, numbers_of};
+ghost use Rattle.arr_listing.specs.Shown.{Shows, slot_numbers};
 ghost use Rattle.arr_listing.specs.Texts.{numbers_text};
 ghost use Rattle.arr_listing.specs.Totals.{plain_sum, shown_total};
 
@@ -16,7 +16,7 @@ use std::alloc::{AllocError as NoMemory, Global};
 fn plain_sum(slot: u32, count: u32, slots: &Slots) -> i128
     requires all { count ≡ slot_size (slots_of slots.now slot) }
     requires few { count ≤ MOST_ELEMENTS }
-    ensures { result ≡ plain_sum (numbers_of (slots_of slots.now slot)) }
+    ensures { result ≡ plain_sum (slot_numbers slots.now slot) }
 {
     let mut sum = 0;
     for position in 0..count {

@@ -1,5 +1,5 @@
 -- What is kept of names and bases while steps are read: counts in place of a search through the names.
-use Rattle.std.specs.Prelude.{ℕ, suc, ◌≡◌, ◌<◌, ◌^◌, ◌==◌, List, [], ◌∷◌, Bool, true, not, cond, map, length, get_or, slice_index, nat_lt, Option, Some, None}
+use Rattle.std.specs.Prelude.{ℕ, suc, ◌≡◌, ◌<◌, ◌^◌, ◌==◌, List, [], ◌∷◌, ◌++◌, Bool, true, not, cond, map, length, get_or, slice_index, nat_lt, Option, Some, None}
 use Rattle.std.specs.List.{AllByRecursion, list_any}
 use Rattle.std.specs.Map.{lookup}
 use Rattle.std.specs.BTreeMap.{is_at}
@@ -7,9 +7,9 @@ use Rattle.std.specs.Ordering.{nat_cmp}
 use Rattle.arr_num.specs.declared.elem.Elem.{Elem}
 use Rattle.arr_num.specs.declared.elem.Elem.TheVariants.{U8}
 use Rattle.arr_ops.specs.Formed.{all_pairs}
-use Rattle.arr_elab.specs.Recording.{Scene, is_live, after_step}
+use Rattle.arr_elab.specs.Recording.{Scene, is_live, after_step, other_names}
 use Rattle.arr_elab.specs.declared.step.Step.{Step}
-use Rattle.arr_record.specs.Parts.{State, Written, unnamed}
+use Rattle.arr_record.specs.Parts.{State, Written, after, unnamed}
 
 -- the bases of the names as a map's entries, the type of each base made so far, how many names stand for each, and the live bases that no name stands for
 pub record Ledger : Type 0 where
@@ -38,6 +38,10 @@ lives live b = list_any (λ (base : ℕ × Elem). base.0 == b) live
 abbrev pub with_types : List Elem → List ℕ → List (ℕ × Elem)
 with_types elems bases = map (λ b. (b, get_or elems b U8)) bases
 
+-- the live bases that no name stands for, with their types
+abbrev pub loose_bases : Ledger → List (ℕ × Elem)
+loose_bases o = with_types o.elems o.loose
+
 -- the ledger says what the names and the live bases are
 pub record Owned (o : Ledger) (names : List (ℕ × ℕ)) (live : List (ℕ × Elem)) : Type 0 where
   pub by_name : (n : ℕ) → found o.names n ≡ base_of names n
@@ -49,6 +53,20 @@ pub record Owned (o : Ledger) (names : List (ℕ × ℕ)) (live : List (ℕ × E
   pub held : AllByRecursion (λ (name : ℕ × ℕ). lives live name.1 ≡ true) names
   pub apart : all_pairs (λ (x y : ℕ × ℕ). not (x.0 == y.0)) names ≡ true
   pub rising : all_pairs (λ (x y : ℕ × Elem). nat_lt x.0 y.0) live ≡ true
+
+-- what the old ledger says of names and live bases, the new one says of them with these bases too
+abbrev pub Makes : Ledger → Ledger → List (ℕ × Elem) → Type 0
+Makes old new bases = (names : List (ℕ × ℕ)) → (live : List (ℕ × Elem)) → Owned old names live → Owned new names (live ++ bases)
+
+-- it says it of the names as they are changed
+abbrev pub Renames : Ledger → Ledger → (List (ℕ × ℕ) → List (ℕ × ℕ)) → Type 0
+Renames old new change = (names : List (ℕ × ℕ)) → (live : List (ℕ × Elem)) → Owned old names live → Owned new (change names) live
+
+-- it says it of the names when this one stands for a base that lives
+abbrev pub Binds : Ledger → Ledger → ℕ → ℕ → Type 0
+Binds old new name base =
+    (names : List (ℕ × ℕ)) → (live : List (ℕ × Elem)) → Owned old names live → lives live base ≡ true
+    → Owned new ((name, base) ∷ other_names name names) live
 
 -- it says so of some
 pub record Known (o : Ledger) : Type 0 where
@@ -71,3 +89,7 @@ pub record Ready (w : Written) (o : Ledger) (step : Step) : Type 0 where
   pub live : (b : ℕ) → is_live scene b ≡ true → lives state.live b ≡ true
   pub may : after_step scene step ≡ Some next
   pub few : length state.names < 2 ^ 63
+
+-- what is written and the ledger follow the step, from whatever state it came next
+abbrev pub FollowsStep : Written → Ledger → Step → Written → Ledger → Type 0
+FollowsStep w o step written ledger = (r : Ready w o step) → Follows r.next (after r.state step) written ledger

@@ -1,11 +1,10 @@
 //! Which names stand for which bases, and which live bases no name stands for.
-ghost use Rattle.std.specs.Prelude.{ℕ, ◌+◌, ◌<◌, ◌^◌, ◌≡◌, List, [], ◌∷◌, ◌++◌, true, length, OnOk};
-ghost use Rattle.arr_num.specs.declared.elem.Elem.{Elem};
+ghost use Rattle.std.specs.Prelude.{◌+◌, ◌<◌, ◌^◌, ◌≡◌, [], ◌∷◌, true, length, OnOk};
 ghost use Rattle.arr_elab.specs.Recording.{other_names};
 ghost use Rattle.std.specs.List.{AllByRecursion};
 ghost use Rattle.arr_ops.specs.Ops.{outputs};
 ghost use Rattle.arr_record.specs.Parts.{free_each, made};
-ghost use Rattle.arr_record.specs.Ledger.{lives, with_types, Known, Owned};
+ghost use Rattle.arr_record.specs.Ledger.{lives, loose_bases, Binds, Known, Makes, Owned, Renames};
 
 use crate::NoMemory;
 use crate::writer::{Writer, free_of};
@@ -49,8 +48,7 @@ impl Owners {
     /// The next base is made. No name stands for it yet.
     pub(crate) fn make(&mut self, base: u32, elem: Elem) -> Result<(), NoMemory>
         requires { base ≡ length self.old.elems }
-        ensures owned { OnOk result ((names : List (ℕ × ℕ)) → (live : List (ℕ × Elem)) → Owned self.old names live
-            → Owned self.new names (live ++ (base, elem) ∷ [])) }
+        ensures owned { OnOk result (Makes self.old self.new ((base, elem) ∷ [])) }
         ensures made { OnOk result (length self.new.elems ≡ length self.old.elems + 1) }
     {
         self.elems.push(elem)?;
@@ -62,8 +60,7 @@ impl Owners {
     /// The base that an operation makes, if it makes one.
     pub(crate) fn make_for(&mut self, op: &Op) -> Result<(), NoMemory>
         requires { op.now.makes ≡ true → AllByRecursion (λ o. o.base ≡ length self.old.elems) (outputs op.now) }
-        ensures owned { OnOk result ((names : List (ℕ × ℕ)) → (live : List (ℕ × Elem)) → Owned self.old names live
-            → Owned self.new names (live ++ made op.now)) }
+        ensures owned { OnOk result (Makes self.old self.new (made op.now)) }
         ensures made { OnOk result (length self.new.elems ≡ length self.old.elems + length (made op.now)) }
     {
         if !op.makes {
@@ -78,8 +75,7 @@ impl Owners {
     /// The name stands for nothing from here on.
     pub(crate) fn release(&mut self, name: u32) -> Result<(), NoMemory>
         requires { Known self.old }
-        ensures owned { OnOk result ((names : List (ℕ × ℕ)) → (live : List (ℕ × Elem)) → Owned self.old names live
-            → Owned self.new (other_names name names) live) }
+        ensures owned { OnOk result (Renames self.old self.new (other_names name)) }
         ensures made { OnOk result (self.new.elems ≡ self.old.elems) }
     {
         let Some(base) = self.names.remove(&name) else {
@@ -97,8 +93,7 @@ impl Owners {
     /// The name stands for a live base from here on.
     pub(crate) fn bind(&mut self, name: u32, base: u32) -> Result<(), NoMemory>
         requires { (known : Known self.old) × (lives known.live base ≡ true) × (length known.names < 2 ^ 63) }
-        ensures owned { OnOk result ((names : List (ℕ × ℕ)) → (live : List (ℕ × Elem)) → Owned self.old names live
-            → lives live base ≡ true → Owned self.new ((name, base) ∷ other_names name names) live) }
+        ensures owned { OnOk result (Binds self.old self.new name base) }
         ensures made { OnOk result (self.new.elems ≡ self.old.elems) }
     {
         self.release(name)?;
@@ -111,7 +106,7 @@ impl Owners {
     /// Frees the live bases that no name stands for, in ascending order.
     pub(crate) fn free_loose(&mut self, alloc: Global, writer: &mut Writer) -> Result<(), NoMemory>
         requires { Known self.old }
-        ensures freed { OnOk result (writer.new ≡ free_each writer.old (with_types self.old.elems self.old.loose)) }
+        ensures freed { OnOk result (writer.new ≡ free_each writer.old (loose_bases self.old)) }
         ensures left { OnOk result (self.new ≡ record self.old { loose = [] }) }
     {
         for base in &self.loose {
@@ -124,8 +119,7 @@ impl Owners {
     /// No name stands for anything from here on.
     pub(crate) fn release_all(&mut self, alloc: Global) -> Result<(), NoMemory>
         requires { Known self.old }
-        ensures { OnOk result ((names : List (ℕ × ℕ)) → (live : List (ℕ × Elem)) → Owned self.old names live
-            → Owned self.new [] live) }
+        ensures { OnOk result (Renames self.old self.new (λ names. [])) }
     {
         let names: Vec<u32> = self.names.keys().copied().collect(alloc)?;
         for name in &names {

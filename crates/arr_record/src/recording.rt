@@ -4,8 +4,8 @@ ghost use Rattle.std.specs.List.{list_all};
 ghost use Rattle.arr_ops.specs.Memory.{empty};
 ghost use Rattle.arr_elab.specs.Recording.{is_recording};
 ghost use Rattle.arr_elab.specs.Steps.{eager_arrays};
-ghost use Rattle.arr_record.specs.Parts.{after, parts_of};
-ghost use Rattle.arr_record.specs.Ledger.{Follows, Ready};
+ghost use Rattle.arr_record.specs.Parts.{parts_of};
+ghost use Rattle.arr_record.specs.Ledger.{FollowsStep, Ready};
 ghost use Rattle.arr_record.specs.Runs.{after_parts, each_fits, is_part, printed_parts};
 
 use crate::NoMemory;
@@ -23,8 +23,7 @@ fn follow(
     step: &Step,
 ) -> Result<(), NoMemory>
     requires { Ready writer.old owners.old step.now }
-    ensures { OnOk result ((r : Ready writer.old owners.old step.now)
-        → Follows r.next (after r.state step.now) writer.new owners.new) }
+    ensures { OnOk result (FollowsStep writer.old owners.old step.now writer.new owners.new) }
 {
     match step {
         Step::Act(op) => {

@@ -1,6 +1,6 @@
 -- The rules that look at the list around an operation, and the application that comes next. A list is taken apart at the operation's
 -- place: `front`, the operation, and `back`.
-use Rattle.std.specs.Prelude.{ℕ, ℤ, List, [], ◌∷◌, ◌++◌, Bool, true, false, cond, not, ◌&&◌, ◌||◌, Option, Some, None}
+use Rattle.std.specs.Prelude.{ℕ, ℤ, List, [], ◌∷◌, ◌++◌, Bool, true, false, cond, not, ◌&&◌, ◌||◌, take, drop, Option, Some, None}
 use Rattle.std.specs.Bool.{then_some}
 use Rattle.std.specs.Option.{option_or}
 use Rattle.std.specs.List.{list_any, list_all, filter}
@@ -52,10 +52,13 @@ abbrev pub source_view : List Op → Option Operand → Option Strided
 source_view between (Some (Array w)) = then_some (unspoiled between w) w
 source_view between _ = None
 
+-- IDENTITY into the view, in one type
+abbrev pub copies_into : Op → Strided → Bool
+copies_into op x = is_identity op.code && (same_elem op.from op.to && list_any (identical x) (outputs op))
+
 abbrev pub copied_from : Strided → Option Writer → Option Strided
 copied_from x None = None
-copied_from x (Some w) =
-    cond (is_identity w.op.code && (same_elem w.op.from w.op.to && list_any (identical x) (outputs w.op))) (source_view w.between w.op.first) None
+copied_from x (Some w) = cond (copies_into w.op x) (source_view w.between w.op.first) None
 
 abbrev pub copied_operand : List Op → List Op → Option Operand → Option Strided
 copied_operand front back (Some (Array x)) = copied_from x (only_writer front back x.base)
@@ -134,10 +137,22 @@ only_freed fs b = list_any (λ f. frees_base f b) fs && list_all (λ f. frees_ba
 abbrev pub unfreed : List Op → ℕ → List Op
 unfreed fs b = filter (λ f. not (frees_base f b)) fs
 
+-- none of the operations names the base
+abbrev pub unnamed_base : List Op → ℕ → Bool
+unnamed_base fs b = list_all (λ f. not (has (named f) b)) fs
+
+-- the operation makes a base, and no other names the base but for those behind that free it
+abbrev pub is_unused : List Op → Op → List Op → ℕ → Bool
+is_unused front op back b = op.makes && (unnamed_base front b && only_freed back b)
+
+-- what is left without the base's creator, which stands between, and what frees the base
+abbrev pub without_base : List Op → List Op → ℕ → List Op
+without_base front back b = front ++ unfreed back b
+
 -- a creator, and the base's FREE, where no third operation names the base: both are removed
 abbrev pub unused : List Op → Op → List Op → Option Strided → Option (List Op)
 unused front op back None = None
-unused front op back (Some o) = then_some (op.makes && (list_all (λ f. not (has (named f) o.base)) front && only_freed back o.base)) (front ++ unfreed back o.base)
+unused front op back (Some o) = then_some (is_unused front op back o.base) (without_base front back o.base)
 
 -- ---- the next application
 
@@ -151,15 +166,29 @@ abbrev pub replaced : List Op → List Op → Option Op → Option (List Op)
 replaced front back None = None
 replaced front back (Some op) = Some (front ++ op ∷ back)
 
+-- the list after each kind of rule at an operation, where it applies: another operation stands there; a view's copy to itself is
+-- gone; so is a base that nothing uses
+abbrev pub with_replacement : List Op → Op → List Op → Option (List Op)
+with_replacement front op back = replaced front back (replacement front op back)
+
+abbrev pub without_copy : List Op → Op → List Op → Option (List Op)
+without_copy front op back = then_some (copies_itself op) (front ++ back)
+
+abbrev pub without_unused : List Op → Op → List Op → Option (List Op)
+without_unused front op back = unused front op back op.out
+
 -- the ten rules in order, at one operation
 abbrev pub rewrite_at : List Op → Op → List Op → Option (List Op)
-rewrite_at front op back =
-    option_or (replaced front back (replacement front op back)) (option_or (then_some (copies_itself op) (front ++ back)) (unused front op back op.out))
+rewrite_at front op back = option_or (with_replacement front op back) (option_or (without_copy front op back) (without_unused front op back))
 
 -- the first application at an operation of the second list
 abbrev pub rewrite_from : List Op → List Op → Option (List Op)
 rewrite_from front [] = None
 rewrite_from front (op ∷ back) = option_or (rewrite_at front op back) (rewrite_from (front ++ op ∷ []) back)
+
+-- the first application at a place of a list, or behind it
+abbrev pub rewrite_behind : ℕ → List Op → Option (List Op)
+rewrite_behind place list = rewrite_from (take place list) (drop place list)
 
 -- the list after the application of least place, then of the earliest rule, then of the earlier operand
 abbrev pub next_rewrite : List Op → Option (List Op)

@@ -1,5 +1,5 @@
 -- Places at which the search for the next application has unused bases alone left to look for.
-use Rattle.std.specs.Prelude.{ℕ, zero, suc, ◌≡◌, ◌≤◌, List, [], ◌∷◌, ◌++◌, false, length, Option, Some, None}
+use Rattle.std.specs.Prelude.{ℕ, zero, suc, ◌+◌, ◌≡◌, ◌≤◌, List, [], ◌∷◌, ◌++◌, Bool, false, cond, length, take, drop, get_or, Option, Some, None}
 use Rattle.arr_ops.specs.declared.op.Op.{Op}
 use Rattle.arr_rewrite.specs.Rules.{copies_itself}
 use Rattle.arr_rewrite.specs.NextRewrite.{replacement}
@@ -17,6 +17,11 @@ Settled (suc n) front (op ∷ back) = IsQuiet front (op ∷ back) × Settled n (
 
 abbrev pub SettledTo : ℕ → List Op → Type 0
 SettledTo n list = Settled n [] list
+
+-- whether a rule applies at the place of a list, and the list after it
+abbrev pub AppliesAt : (List Op → Op → List Op → Option (List Op)) → ℕ → List Op → List Op → Bool → Type 0
+AppliesAt rule place old new done =
+    (op : Op) → op ≡ get_or old place op → rule (take place old) op (drop (place + 1) old) ≡ cond done (Some new) None
 
 -- what a search for the next application leaves: the rest of the search, or the list after it, settled up to a place
 abbrev pub Searched : Option (List Op) → Option (List Op) → List Op → Option ℕ → Type 0

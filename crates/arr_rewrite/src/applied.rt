@@ -1,15 +1,11 @@
 //! The applications, one after another, until none is left.
-ghost use Rattle.std.specs.Prelude.{◌≡◌, ◌+◌, ◌<◌, ◌≤◌, IfOk, Some, None, cond, true, false, length, take, drop, get_or, ◌++◌};
+ghost use Rattle.std.specs.Prelude.{◌≡◌, ◌<◌, ◌≤◌, IfOk, None, true, false, length};
 ghost use Rattle.arr_ops.specs.Memory.{Memory, eager};
 ghost use Rattle.arr_ops.specs.Formed.{is_formed};
 ghost use Rattle.arr_ops.specs.Fits.{fits};
-ghost use Rattle.std.specs.Option.{option_or};
-ghost use Rattle.std.specs.Bool.{then_some};
-ghost use Rattle.arr_ops.specs.declared.op.Op.{Op};
-ghost use Rattle.arr_rewrite.specs.Rules.{copies_itself};
-ghost use Rattle.arr_rewrite.specs.NextRewrite.{next_rewrite, replaced, replacement, rewrite_from, unused};
+ghost use Rattle.arr_rewrite.specs.NextRewrite.{next_rewrite, rewrite_behind, with_replacement, without_copy, without_unused};
 ghost use Rattle.arr_rewrite.specs.NormalForm.{normal_form};
-ghost use Rattle.arr_rewrite.specs.Settled.{Searched, SettledTo};
+ghost use Rattle.arr_rewrite.specs.Settled.{AppliesAt, Searched, SettledTo};
 
 use crate::meetings::Meetings;
 use crate::replaced::replacement;
@@ -22,10 +18,7 @@ use std::alloc::{AllocError as NoMemory, Global};
 fn replace(meetings: &mut Meetings, list: &mut Vec<Op>, place: usize) -> Result<bool, NoMemory>
     requires place { place < length list.now.items }
     requires formed { is_formed list.now.items ≡ true }
-    ensures becomes { IfOk result (λ done. (op : Op) → op ≡ get_or list.old.items place op
-        → replaced (take place list.old.items) (drop (place + 1) list.old.items)
-        (replacement (take place list.old.items) op (drop (place + 1) list.old.items))
-        ≡ cond done (Some list.new.items) None) }
+    ensures becomes { IfOk result (AppliesAt with_replacement place list.old.items list.new.items) }
     ensures long { IfOk result (λ done. length list.new.items ≡ length list.old.items) }
     ensures settled { IfOk result (λ done. SettledTo place list.old.items → SettledTo place list.new.items) }
     ensures kept { IfOk result (λ done. done ≡ false → list.new.items ≡ list.old.items) }
@@ -44,9 +37,7 @@ fn replace(meetings: &mut Meetings, list: &mut Vec<Op>, place: usize) -> Result<
 /// Removes the operation at the place, where it copies a view to itself.
 fn remove_copy(list: &mut Vec<Op>, place: usize) -> bool
     requires { place < length list.now.items }
-    ensures left { (op : Op) → op ≡ get_or list.old.items place op
-        → then_some (copies_itself op) (take place list.old.items ++ drop (place + 1) list.old.items)
-        ≡ cond result (Some list.new.items) None }
+    ensures left { AppliesAt without_copy place list.old.items list.new.items result }
     ensures kept { result ≡ false → list.new.items ≡ list.old.items }
 {
     if copies_itself(&list[place]) {
@@ -61,9 +52,7 @@ fn remove_copy(list: &mut Vec<Op>, place: usize) -> bool
 fn remove_unused(list: &mut Vec<Op>, place: usize) -> bool
     requires place { place < length list.now.items }
     requires formed { is_formed list.now.items ≡ true }
-    ensures left { (op : Op) → op ≡ get_or list.old.items place op
-        → unused (take place list.old.items) op (drop (place + 1) list.old.items) op.out
-        ≡ cond result (Some list.new.items) None }
+    ensures left { AppliesAt without_unused place list.old.items list.new.items result }
     ensures long { place ≤ length list.new.items }
     ensures settled { SettledTo place list.old.items → SettledTo place list.new.items }
     ensures kept { result ≡ false → list.new.items ≡ list.old.items }
@@ -85,8 +74,8 @@ fn rewrite_settled(list: &mut Vec<Op>, settled: usize) -> Option<usize>
     requires formed { is_formed list.now.items ≡ true }
     requires few { settled ≤ length list.now.items }
     requires settled { SettledTo settled list.now.items }
-    ensures next { Searched (next_rewrite list.old.items)
-        (rewrite_from (take settled list.old.items) (drop settled list.old.items)) list.new.items result }
+    ensures next { Searched (next_rewrite list.old.items) (rewrite_behind settled list.old.items)
+        list.new.items result }
     ensures kept { result ≡ None → list.new.items ≡ list.old.items }
 {
     for place in 0..settled {
@@ -107,8 +96,7 @@ fn rewrite_rest(
     requires formed { is_formed list.now.items ≡ true }
     requires few { settled ≤ length list.now.items }
     requires settled { SettledTo settled list.now.items }
-    ensures next { IfOk result (λ place. Searched
-        (rewrite_from (take settled list.old.items) (drop settled list.old.items)) None list.new.items place) }
+    ensures next { IfOk result (Searched (rewrite_behind settled list.old.items) None list.new.items) }
     ensures kept { IfOk result (λ place. place ≡ None → list.new.items ≡ list.old.items) }
 {
     for place in settled..list.len() {
@@ -134,7 +122,7 @@ fn rewrite_once(
     requires formed { is_formed list.now.items ≡ true }
     requires few { settled ≤ length list.now.items }
     requires settled { SettledTo settled list.now.items }
-    ensures next { IfOk result (λ place. Searched (next_rewrite list.old.items) None list.new.items place) }
+    ensures next { IfOk result (Searched (next_rewrite list.old.items) None list.new.items) }
     ensures kept { IfOk result (λ place. place ≡ None → list.new.items ≡ list.old.items) }
 {
     match rewrite_settled(list, settled) {
@@ -152,7 +140,8 @@ pub fn rewrite(alloc: Global, ops: &[Op]) -> Result<Vec<Op>, NoMemory>
     ensures ended { IfOk result (λ list. next_rewrite list.items ≡ None) }
     ensures formed { IfOk result (λ list. is_formed list.items ≡ true) }
     ensures fitting { (m : Memory) → fits m ops.now ≡ true → IfOk result (λ list. fits m list.items ≡ true) }
-    ensures memory { (m : Memory) → fits m ops.now ≡ true → IfOk result (λ list. eager m list.items ≡ eager m ops.now) }
+    ensures memory { (m : Memory) → fits m ops.now ≡ true
+        → IfOk result (λ list. eager m list.items ≡ eager m ops.now) }
 {
     let mut list = copied_ops(alloc, ops)?;
     let mut meetings = Meetings::new(alloc, ops)?;

@@ -1,11 +1,7 @@
 //! Constants and copied views that operations read in place of the views that hold them.
-ghost use Rattle.std.specs.Prelude.{◌≡◌, ◌∷◌, ◌&&◌, IfOk, Some, None, cond};
-ghost use Rattle.std.specs.List.{list_any};
-ghost use Rattle.arr_view.specs.Views.{identical};
-ghost use Rattle.arr_num.specs.Types.{same_elem};
-ghost use Rattle.arr_ops.specs.Ops.{outputs};
+ghost use Rattle.std.specs.Prelude.{◌≡◌, ◌∷◌, IfOk, Some, None, cond};
 ghost use Rattle.arr_rewrite.specs.Rules.{is_identity};
-ghost use Rattle.arr_rewrite.specs.NextRewrite.{constant_carried, copied_from, copied_operand, copy_carried, first_number, first_view, known_operand, second_number, second_view, source_number, source_view};
+ghost use Rattle.arr_rewrite.specs.NextRewrite.{constant_carried, copied_from, copied_operand, copies_into, copy_carried, first_number, first_view, known_operand, second_number, second_view, source_number, source_view};
 
 use crate::meetings::Meetings;
 use crate::rules::{constant_op, with_first, with_second};
@@ -103,8 +99,7 @@ fn source_view(
 
 /// Whether it is IDENTITY into the view, in one type.
 fn copies_into(op: &Op, view: &View) -> bool
-    ensures { result ≡ (is_identity op.now.code
-        && (same_elem op.now.from op.now.to && list_any (identical view.now) (outputs op.now))) }
+    ensures { result ≡ copies_into op.now view.now }
 {
     is_identity(op.code) && op.from == op.to && is_output(view, op)
 }

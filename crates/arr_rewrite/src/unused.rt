@@ -1,10 +1,10 @@
 //! Bases that nothing uses.
-ghost use Rattle.std.specs.Prelude.{◌≡◌, ◌&&◌, ◌||◌, ◌++◌, IfSome, true, not};
+ghost use Rattle.std.specs.Prelude.{◌≡◌, ◌||◌, IfSome, true, not};
 ghost use Rattle.std.specs.Option.{option_map};
 ghost use Rattle.std.specs.List.{list_all, list_any};
 ghost use Rattle.arr_view.specs.Views.{has};
 ghost use Rattle.arr_ops.specs.Ops.{named};
-ghost use Rattle.arr_rewrite.specs.NextRewrite.{frees_base, only_freed, unfreed, unused};
+ghost use Rattle.arr_rewrite.specs.NextRewrite.{frees_base, is_unused, only_freed, unfreed, unnamed_base, without_base, without_unused};
 
 use arr_ops::Op;
 
@@ -15,7 +15,7 @@ fn frees_base(op: &Op, base: u32) -> bool
 }
 
 fn unnamed(ops: &[Op], base: u32) -> bool
-    ensures { result ≡ list_all (λ f. not (has (named f) base)) ops.now }
+    ensures { result ≡ unnamed_base ops.now base }
 {
     ops.iter().all(|op| !op.names(base))
 }
@@ -49,8 +49,7 @@ fn only_freed(ops: &[Op], base: u32) -> bool
 
 /// Whether a creator's base is named by nothing but what frees it.
 pub(crate) fn is_unused(front: &[Op], op: &Op, back: &[Op], base: u32) -> bool
-    ensures { result ≡ (op.now.makes
-        && (list_all (λ f. not (has (named f) base)) front.now && only_freed back.now base)) }
+    ensures { result ≡ is_unused front.now op.now back.now base }
 {
     op.makes && only_freed(back, base) && unnamed(front, base)
 }
@@ -64,9 +63,9 @@ pub(crate) fn remove_frees(list: &mut Vec<Op>, base: u32)
 
 /// The base of a creator that nothing uses.
 pub(crate) fn unused_base(front: &[Op], op: &Op, back: &[Op]) -> Option<u32>
-    ensures left { unused front.now op.now back.now op.now.out
-        ≡ option_map (λ b. front.now ++ unfreed back.now b) result }
-    ensures unnamed { IfSome result (λ b. list_all (λ f. not (has (named f) b)) front.now ≡ true) }
+    ensures left { without_unused front.now op.now back.now
+        ≡ option_map (without_base front.now back.now) result }
+    ensures unnamed { IfSome result (λ b. unnamed_base front.now b ≡ true) }
 {
     match &op.out {
         Some(out) => {

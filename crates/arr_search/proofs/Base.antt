@@ -1,6 +1,6 @@
 -- Lemmas on Bools and sums.
 use Rattle.std.proofs.Common.{◌≡◌, ℕ, zero, suc, ◌+◌, ◌*◌, ◌<◌, ◌≤◌, List, [], ◌∷◌, Bool, true, false, not, ◌&&◌, ◌||◌, refl, sym, ap, subst, arith, ⊎_elim}
-use Rattle.std.specs.List.{list_any, list_all}
+use Rattle.std.specs.List.{list_any}
 use Rattle.std.proofs.lemmas.Bool.{and_parts, and_from, or_left, or_right, true≢false, cases_eq}
 use Rattle.arr_ops.proofs.Tests.{or_cases}
 use Rattle.arr_law.specs.Problem.{sum_below}
@@ -13,10 +13,6 @@ or_more a b c d f g e = or_cases a b e (λ x. or_left c d (f x)) (λ y. or_right
 pub and_more : (a b c d : Bool) → (a ≡ true → c ≡ true) → (b ≡ true → d ≡ true) → (a && b) ≡ true → (c && d) ≡ true
 and_more a b c d f g e = let h = and_parts a b e in and_from c d (f h.0) (g h.1)
 
-pub by_bool : {P : Type 0} (b : Bool) → (b ≡ true → P) → (b ≡ false → P) → P
-by_bool true t f = t refl
-by_bool false t f = f refl
-
 pub not_more : (a b : Bool) → (a ≡ true → b ≡ true) → not b ≡ true → not a ≡ true
 not_more true true f e = e
 not_more true false f e = absurd (true≢false (sym (f refl)))
@@ -25,10 +21,6 @@ not_more false b f e = refl
 pub any_more : {A : Type 0} (p q : A → Bool) (xs : List A) → ((x : A) → p x ≡ true → q x ≡ true) → list_any p xs ≡ true → list_any q xs ≡ true
 any_more p q [] step e = e
 any_more p q (x ∷ xs) step e = or_more (p x) (list_any p xs) (q x) (list_any q xs) (step x) (any_more p q xs step) e
-
-pub all_more : {A : Type 0} (p q : A → Bool) (xs : List A) → ((x : A) → p x ≡ true → q x ≡ true) → list_all p xs ≡ true → list_all q xs ≡ true
-all_more p q [] step e = e
-all_more p q (x ∷ xs) step e = and_more (p x) (list_all p xs) (q x) (list_all q xs) (step x) (all_more p q xs step) e
 
 pub bit-le : (a b : Bool) → (a ≡ true → b ≡ true) → bit a ≤ bit b
 bit-le true b f = subst (λ c. 1 ≤ bit c) (sym (f refl)) (omega arith)

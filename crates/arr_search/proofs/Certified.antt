@@ -23,8 +23,8 @@ use Rattle.arr_law.proofs.Agrees.{agrees, stands_at, holders_place}
 use Rattle.arr_law.proofs.Members.{op_range, pair_ops, ops_are}
 use Rattle.arr_law.proofs.Proper.{first_passes}
 use Rattle.arr_law.proofs.Sums.{sum_below-same}
+use Rattle.arr_state.proofs.Basics.{by_bool}
 use Rattle.arr_search.specs.Best.{places_of}
-use Rattle.arr_search.proofs.Base.{by_bool}
 
 -- ---- tests of a range
 

@@ -1,16 +1,17 @@
 -- What is counted of facts: floors, open pairs and missing facts.
 use Rattle.std.proofs.Common.{◌≡◌, ℕ, zero, suc, ◌+◌, ◌*◌, ◌<◌, ◌≤◌, Bool, true, false, cond, not, ◌&&◌, Option, Some, None, refl, sym, ap, ◌∙◌, subst, arith}
 use Rattle.std.specs.Prelude.{nat_le, nat_lt, ◌==◌}
-use Rattle.std.proofs.lemmas.Bool.{and_parts, and_from, or_left, or_right, not-true, true≢false, leb-true, le-leb, eq-eqb, ne_eqb, ltb-true}
+use Rattle.std.proofs.lemmas.Bool.{and_parts, and_from, not-true, true≢false, leb-true, le-leb, ne_eqb, ltb-true}
 use Rattle.arr_law.specs.declared.fact.Fact.{Fact}
 use Rattle.arr_law.specs.declared.fact.Fact.TheVariants.{Same, Apart, Before}
 use Rattle.arr_law.specs.Problem.{Problem, is_op, is_pair, operations, sum_below}
-use Rattle.arr_law.specs.Facts.{Facts, is_fact, with_fact, root_facts}
+use Rattle.arr_law.specs.Facts.{Facts, root_facts}
 use Rattle.arr_law.specs.Leaves.{is_apart, surely_charges}
 use Rattle.arr_law.specs.Floor.{is_paid, is_paid_twice, floor_of_class, floor, Within}
 use Rattle.arr_law.proofs.Sums.{sum_below-le}
+use Rattle.arr_state.proofs.Basics.{by_bool}
 use Rattle.arr_search.specs.Counts.{bit, count_pairs, is_open, open_pairs, fusible_pairs, missing}
-use Rattle.arr_search.proofs.Base.{or_more, and_more, not_more, any_more, by_bool, bit-le, bit-most, sum_below-less, sum_below-most}
+use Rattle.arr_search.proofs.Base.{or_more, and_more, not_more, any_more, bit-le, bit-most, sum_below-less, sum_below-most}
 
 -- counting pairs
 is_op-suc : (problem : Problem) (i : ℕ) → i < problem.count → is_op problem (suc i) ≡ true
@@ -49,21 +50,6 @@ count-most problem p =
 pub missing-most : (problem : Problem) (facts : Facts) → missing problem facts ≤ 3 * (problem.count * problem.count)
 missing-most problem facts =
     omega (arith, count-most problem (λ f g. not (facts (Same f g))), count-most problem (λ f g. not (facts (Apart f g))), count-most problem (λ f g. not (facts (Before f g))))
-
--- more facts
-pub with_within : (facts : Facts) (x : Fact) → Within facts (with_fact x facts)
-with_within facts x y e = or_right (is_fact x y) (facts y) e
-
-pub is_fact-same : (x : Fact) → is_fact x x ≡ true
-is_fact-same (Same f g) = or_left ((f == f) && (g == g)) ((f == g) && (g == f)) (and_from (f == f) (g == g) (eq-eqb f f refl) (eq-eqb g g refl))
-is_fact-same (Apart f g) = or_left ((f == f) && (g == g)) ((f == g) && (g == f)) (and_from (f == f) (g == g) (eq-eqb f f refl) (eq-eqb g g refl))
-is_fact-same (Before f g) = and_from (f == f) (g == g) (eq-eqb f f refl) (eq-eqb g g refl)
-
-pub with_here : (facts : Facts) (x : Fact) → with_fact x facts x ≡ true
-with_here facts x = or_left (is_fact x x) (facts x) (is_fact-same x)
-
-pub within-then : (a b c : Facts) → Within a b → Within b c → Within a c
-within-then a b c f g x e = g x (f x e)
 
 -- the operations of a fact are of the list
 abbrev pub IsAbout : Problem → Fact → Type 0

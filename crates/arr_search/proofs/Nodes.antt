@@ -449,12 +449,55 @@ stays_on list p q r first second budget pending s = second budget pending (first
 pub known_at : (list : List Op) (s : Standing) → s.list ≡ list → known s ≡ facts_of (problem_of list) s.trail
 known_at list s e = ap (λ (l : List Op). facts_of (problem_of l) s.trail) e
 
+pub leaf_for : (list views : List Op) (facts : Facts) (value : ℕ) (groups : List Charge) → views ≡ list → IsLargeLeaf (problem_of views) facts value groups → IsLargeLeaf (problem_of list) facts value groups
+leaf_for list views facts value groups v h = subst (λ (l : List Op). IsLargeLeaf (problem_of l) facts value groups) v h
+
 pub leaf_at_state : (list views : List Op) (s : Standing) (value : ℕ) (groups : List Charge) → views ≡ list → s.list ≡ list → IsLargeLeaf (problem_of views) (known s) value groups → IsLargeLeaf (problem_of list) (facts_of (problem_of list) s.trail) value groups
 leaf_at_state list views s value groups v e h =
-    subst (λ F. IsLargeLeaf (problem_of list) F value groups) (known_at list s e) (subst (λ (l : List Op). IsLargeLeaf (problem_of l) (known s) value groups) v h)
+    subst (λ F. IsLargeLeaf (problem_of list) F value groups) (known_at list s e) (leaf_for list views (known s) value groups v h)
 
 pub about_at : (list : List Op) (s : Standing) → s.list ≡ list → ((x : Fact) → IsTrue (known s x) → AreOps (problem_of s.list) x) → (x : Fact) → IsTrue (facts_of (problem_of list) s.trail x) → AreOps (problem_of list) x
 about_at list s e h = subst (λ (l : List Op). (x : Fact) → IsTrue (facts_of (problem_of l) s.trail x) → AreOps (problem_of l) x) e h
+
+pub low_at : (list : List Op) (s : Standing) (n : ℕ) → s.list ≡ list → floor (problem_of list) (known s) < n → floor (problem_of list) (facts_of (problem_of list) s.trail) < n
+low_at list s n e low = subst (λ F. floor (problem_of list) F < n) (known_at list s e) low
+
+-- ---- a node after steps, as the call that took them tells of it
+
+pub record Grown (list : List Op) (budget : ℕ) (before after : Standing) (p q : Progress) : Type 0 where
+  pub here : after.list ≡ list
+  pub took : Took (problem_of list) budget before.trail after.trail p q
+  pub node : IsNode (problem_of list) (known after)
+  pub known_is : known after ≡ facts_of (problem_of list) after.trail
+
+pub took_at : (list : List Op) (budget : ℕ) (before after : Standing) (p q : Progress) → before.list ≡ list → IsNode (problem_of list) (known before)
+    → after.list ≡ before.list → Took (problem_of before.list) budget before.trail after.trail p q → Grown list budget before after p q
+took_at list budget before after p q is node stays took =
+    let P : Problem = problem_of list in
+    let here : after.list ≡ list = stays ∙ is in
+    let t : Took P budget before.trail after.trail p q = subst (λ (l : List Op). Took (problem_of l) budget before.trail after.trail p q) is took in
+    record {
+      here = here;
+      took = t;
+      node = subst (IsNode P) (sym (known_at list after here)) (grown_node list budget before.trail after.trail p q t (subst (IsNode P) (known_at list before is) node));
+      known_is = known_at list after here;
+    }
+
+-- after all that followed, or as many steps as the budget had left
+pub record Saturates (list : List Op) (budget : ℕ) (before after : Standing) (p q : Progress) (outcome : Outcome) : Type 0 where
+  pub grown : Grown list budget before after p q
+  pub advanced : Advanced (problem_of list) budget before.trail after.trail p q outcome
+  pub about : (x : Fact) → IsTrue (facts_of (problem_of list) after.trail x) → AreOps (problem_of list) x
+
+pub advanced_at : (list : List Op) (budget : ℕ) (before after : Standing) (p q : Progress) (outcome : Outcome) → before.list ≡ list → IsNode (problem_of list) (known before) → p.units ≤ budget
+    → after.list ≡ before.list → ((x : Fact) → IsTrue (known after x) → AreOps (problem_of after.list) x) → Advanced (problem_of before.list) budget before.trail after.trail p q outcome
+    → Saturates list budget before after p q outcome
+advanced_at list budget before after p q outcome is node within stays about a =
+    record {
+      grown = took_at list budget before after p q is node stays (advanced_took before.list budget before.trail after.trail p q outcome a within);
+      advanced = subst (λ (l : List Op). Advanced (problem_of l) budget before.trail after.trail p q outcome) is a;
+      about = about_at list after (stays ∙ is) about;
+    }
 
 -- ---- a pair that is picked, or none
 

@@ -6,6 +6,7 @@ use Rattle.std.proofs.lemmas.List.Elements.{All-from_recursion}
 use Rattle.std.specs.List.Sorted.{IsPermutation}
 use Rattle.std.proofs.lemmas.Bool.{true≢false, not-true, eqb-true, eq-eqb, ne_eqb, cases_eq, cases_lt, lt-ltb}
 use Rattle.arr_view.specs.Views.{has}
+use Rattle.arr_view.proofs.Known.{same_tests}
 use Rattle.arr_ops.specs.declared.op.Op.{Op}
 use Rattle.arr_ops.specs.Ops.{fusible}
 use Rattle.arr_ops.specs.Plans.{ascends, holders, not_empty, place, numbered, is_legal}
@@ -31,14 +32,9 @@ use Rattle.arr_search.specs.Parts.{with_label, parts, plan_by}
 pub record AreLabels (labels : List ℕ) : Type 0 where
   pub below : (f : ℕ) → 1 ≤ f → f ≤ length labels → place_in labels f < length labels
 
-bool_same : (a b : Bool) → (a ≡ true → b ≡ true) → (b ≡ true → a ≡ true) → a ≡ b
-bool_same true b f g = sym (f refl)
-bool_same false true f g = absurd (true≢false (sym (g refl)))
-bool_same false false f g = refl
-
 pub has_label : (labels : List ℕ) (k f : ℕ) → 1 ≤ f → f ≤ length labels → has (with_label labels k) f ≡ (place_in labels f == k)
 has_label labels k f a b =
-    bool_same (has (with_label labels k) f) (place_in labels f == k) (λ e. (has_filter (λ f. place_in labels f == k) (range_with_len 1 (length labels)) f e).0)
+    same_tests (has (with_label labels k) f) (place_in labels f == k) (λ e. (has_filter (λ f. place_in labels f == k) (range_with_len 1 (length labels)) f e).0)
     (λ e. filter_has (λ f. place_in labels f == k) (range_with_len 1 (length labels)) f (range_has 1 (length labels) f a (omega arith)) e)
 
 pub label_range : (labels : List ℕ) (k f : ℕ) → has (with_label labels k) f ≡ true → (1 ≤ f) × (f ≤ length labels)
@@ -151,7 +147,7 @@ module _ (list : List Op) (labels : List ℕ) (long : length labels ≡ length l
       go false t o = absurd (cc)
 
   pub plan_shares : (plan : List (List ℕ)) → IsPermutation (parts labels) plan → (f g : ℕ) → 1 ≤ f → f ≤ length list → 1 ≤ g → g ≤ length list → (place plan f == place plan g) ≡ (place_in labels f == place_in labels g)
-  plan_shares plan perm f g lf uf lg ug = bool_same (place plan f == place plan g) (place_in labels f == place_in labels g) forth back
+  plan_shares plan perm f g lf uf lg ug = same_tests (place plan f == place plan g) (place_in labels f == place_in labels g) forth back
     where
       q : IsPartition (length list) plan
       q = partition_permutation (length list) (parts labels) plan perm partition

@@ -16,12 +16,14 @@ use Rattle.arr_law.specs.Leaves.{is_leaf, worth}
 use Rattle.arr_law.specs.Trees.{unless, or_else, go_on, may_branch, walk}
 use Rattle.arr_law.specs.Floor.{Within, IsSymmetric, IsClosed, Follows, floor, kept_apart}
 use Rattle.arr_state.specs.Went.{CanGoOn}
+use Rattle.arr_state.proofs.Basics.{with_within}
+use Rattle.arr_state.proofs.Spelled.{symmetric-with, with_here}
 use Rattle.arr_search.specs.Counts.{is_open, open_pairs, fusible_pairs}
 use Rattle.arr_search.specs.Found.{units_of, least_of, lower, are_low, node_most, IsFound}
 use Rattle.arr_search.specs.Steps.{Pays, IsPlain}
 use Rattle.arr_search.specs.Running.{size, load, loads, IsAmple, IsReady, Running}
-use Rattle.arr_search.proofs.Counts.{with_within, with_here, floor-le, open-le, open-less, open-root, missing-most}
-use Rattle.arr_search.proofs.Stepped.{Stepped, units-append, symmetric-with, plain-with, root_plain, more_left}
+use Rattle.arr_search.proofs.Counts.{floor-le, open-le, open-less, open-root, missing-most}
+use Rattle.arr_search.proofs.Stepped.{Stepped, units-append, plain-with, root_plain, more_left}
 
 pub size-le : (p q : ℕ) → p ≤ q → size p ≤ size q
 size-le zero zero l = omega arith

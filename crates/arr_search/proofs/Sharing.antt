@@ -5,6 +5,7 @@ use Rattle.std.specs.List.{list_all, position_or_len, range_with_len, AllByRecur
 use Rattle.std.proofs.lemmas.Bool.{and_from, or_left, or_right, true≢false, not-true, eqb-true, eqb-false, eq-eqb, ne_eqb, cases_eq, cases_lt, lt-ltb, false_from_ne_true}
 use Rattle.std.proofs.lemmas.List.FromFn.{length-map-range_with_len}
 use Rattle.arr_view.specs.Views.{has}
+use Rattle.arr_view.proofs.Known.{same_tests}
 use Rattle.arr_ops.specs.declared.op.Op.{Op}
 use Rattle.arr_ops.specs.Ops.{dep}
 use Rattle.arr_ops.specs.Plans.{not_empty, place, numbered}
@@ -28,16 +29,12 @@ use Rattle.arr_law.specs.ProblemOf.{problem_of}
 use Rattle.arr_law.proofs.Agrees.{agrees}
 use Rattle.arr_law.proofs.Members.{op_range, op_from, pair_from, pair_ops}
 use Rattle.arr_bound.specs.Worth.{IsLargeLeaf, KeepsApart, Decides}
+use Rattle.arr_state.proofs.Basics.{by_bool}
 use Rattle.arr_search.specs.Counts.{bit}
 use Rattle.arr_search.specs.Nodes.{IsSettledNode, IsDecided, IsPlanOf}
 use Rattle.arr_search.specs.Parts.{label_of, labels_of, with_label, parts, plan_by}
-use Rattle.arr_search.proofs.Base.{by_bool, bit-le, sum_below-less}
+use Rattle.arr_search.proofs.Base.{bit-le, sum_below-less}
 use Rattle.arr_search.proofs.Partitions.{AreLabels, has_label, label_range, part_of, parts_partition, plan_legal, plan_shares}
-
-bool_same : (a b : Bool) → (a ≡ true → b ≡ true) → (b ≡ true → a ≡ true) → a ≡ b
-bool_same true b f g = sym (f refl)
-bool_same false true f g = absurd (true≢false (sym (g refl)))
-bool_same false false f g = refl
 
 -- ---- positions in a range
 
@@ -154,7 +151,7 @@ module _ (list : List Op) (facts : Facts) (node : IsSettledNode (problem_of list
       every a zero l u = tt
       every a (suc k) l u = (
         let oa : Is a = op_from P a l (omega arith) in
-            bool_same (shares a f) (shares a g) (λ s. shares_then a f g oa of og s e) (λ s. shares_then a g f oa og of s (shares_turned f g e)),
+            same_tests (shares a f) (shares a g) (λ s. shares_then a f g oa of og s e) (λ s. shares_then a g f oa og of s (shares_turned f g e)),
         every (a + 1) k (omega arith) (omega arith),
       )
 
@@ -185,7 +182,7 @@ module _ (list : List Op) (facts : Facts) (node : IsSettledNode (problem_of list
       let rf : (1 ≤ f) × (f ≤ n) = op_range P f of in
       let rg : (1 ≤ g) × (g ≤ n) = op_range P g og in
       ap₂ (λ a b. a == b) (label_at f rf.0 rf.1) (label_at g rg.0 rg.1)
-      ∙ bool_same (label_of P facts f == label_of P facts g) (shares f g) (λ e. label_tells f g of og (eqb-true _ _ e)) (λ e. eq-eqb _ _ (label_alike f g of og e))
+      ∙ same_tests (label_of P facts f == label_of P facts g) (shares f g) (λ e. label_tells f g of og (eqb-true _ _ e)) (λ e. eq-eqb _ _ (label_alike f g of og e))
 
   -- ---- the parts fuse
 
@@ -273,7 +270,7 @@ module _ (list : List Op) (facts : Facts) (node : IsSettledNode (problem_of list
       sum_same zero l = refl
       sum_same (suc m) l =
           let om : Is (suc m) = op_from P (suc m) (omega arith) (omega arith) in
-          ap₂ (λ a b. a + bit b) (sum_same m (omega arith)) (bool_same (stands (suc m) f) (stands (suc m) g) (through f g of og e (suc m) om) (through g f og of (shares_turned f g e) (suc m) om))
+          ap₂ (λ a b. a + bit b) (sum_same m (omega arith)) (same_tests (stands (suc m) f) (stands (suc m) g) (through f g of og e (suc m) om) (through g f og of (shares_turned f g e) (suc m) om))
 
   abbrev ls : List ℕ
   ls = labels_of P facts

@@ -2,12 +2,12 @@
 use Rattle.std.proofs.Common.{◌≡◌, ℕ, zero, suc, ◌+◌, ◌-◌, ◌≤◌, List, [], ◌∷◌, ◌++◌, length, Bool, true, false, cond, not, ◌&&◌, ◌||◌, Option, Some, None, refl, sym, ap, ap₂, ◌∙◌, subst, arith, append_assoc, length-append}
 use Rattle.std.specs.Prelude.{nat_le, ◌==◌, slice_get}
 use Rattle.std.specs.List.{list_all, AllByRecursion}
-use Rattle.std.proofs.lemmas.Bool.{and_parts, and_from, or_left, or_right, not-true, true≢false, eqb-true, eq-eqb, false_from_ne_true}
+use Rattle.std.proofs.lemmas.Bool.{and_parts, and_from, not-true, true≢false, eqb-true, eq-eqb, false_from_ne_true}
 use Rattle.std.proofs.lemmas.List.Sums.{sum_by-append, fold-append}
 use Rattle.arr_ops.specs.Formed.{all_pairs}
 use Rattle.arr_ops.proofs.Tests.{or_cases, all_of}
 use Rattle.arr_law.specs.declared.fact.Fact.{Fact}
-use Rattle.arr_law.specs.declared.fact.Fact.TheVariants.{Same, Apart, Before}
+use Rattle.arr_law.specs.declared.fact.Fact.TheVariants.{Apart}
 use Rattle.arr_law.specs.declared.record.Record.{Record}
 use Rattle.arr_law.specs.declared.record.Record.TheVariants.{Flush, Plan, Cost, Bound, Step, Branch, Dead, Worth, End}
 use Rattle.arr_law.specs.declared.reject.Reject.TheVariants.{BadStep}
@@ -17,13 +17,15 @@ use Rattle.arr_law.specs.Rules.{Rule, rule_list, free_rule, rule_named, applies}
 use Rattle.arr_law.specs.Trees.{unless, go_on, step_fault, after_rule, walk}
 use Rattle.arr_law.specs.Floor.{Within, IsSymmetric, IsClosed}
 use Rattle.arr_state.specs.Went.{CanGoOn}
+use Rattle.arr_state.proofs.Basics.{all_more, by_bool, with_within}
+use Rattle.arr_state.proofs.Gives.{given-some}
+use Rattle.arr_state.proofs.Spelled.{symmetric-with, with_here}
 use Rattle.arr_search.specs.Counts.{missing}
 use Rattle.arr_search.specs.Steps.{IsPlain}
 use Rattle.arr_search.specs.Found.{units_of, least_of, is_unit, lower, are_low}
 use Rattle.arr_state.specs.Known.{after}
 use Rattle.arr_state.specs.Steps.{given, Steps}
-use Rattle.arr_search.proofs.Base.{all_more, by_bool}
-use Rattle.arr_search.proofs.Counts.{with_within, with_here, missing-less, IsAbout}
+use Rattle.arr_search.proofs.Counts.{missing-less, IsAbout}
 
 pub record Stepped (problem : Problem) (facts facts' : Facts) (steps : List Record) : Type 0 where
   pub trees : (bound : ℕ) (pending : List Facts) (more : List Record) → walk problem 2 bound (facts ∷ pending) (steps ++ more) ≡ walk problem 2 bound (facts' ∷ pending) more
@@ -35,17 +37,6 @@ pub record Stepped (problem : Problem) (facts facts' : Facts) (steps : List Reco
   pub follows : (other : Facts) → IsSymmetric other → IsClosed problem other → Within facts other → Within facts' other
   pub symmetric : IsSymmetric facts → IsSymmetric facts'
   pub plain : IsPlain facts → IsPlain facts'
-
--- what a step that gives a fact says
-given-some : (problem : Problem) (facts : Facts) (o : Option Rule) (x : Fact) → given problem facts o ≡ Some x → (rule : Rule) × (o ≡ Some rule) × (applies problem facts rule ≡ true) × (rule.gives ≡ x)
-given-some problem facts None x e = absurd (cc)
-given-some problem facts (Some rule) x e = by_bool (applies problem facts rule) yes_ (λ f. absurd (false_case (sym (ap (λ b. cond b (Some rule.gives) None) f) ∙ e)))
-  where
-    yes_ : applies problem facts rule ≡ true → (r : Rule) × (Some rule ≡ Some r) × (applies problem facts r ≡ true) × (r.gives ≡ x)
-    yes_ t = let s : Some rule.gives ≡ Some x = sym (ap (λ b. cond b (Some rule.gives) None) t) ∙ e in (rule, refl, t, cc)
-
-    false_case : None ≡ Some x → ⊥
-    false_case h = cc
 
 -- the fact that a rule gives is about the rule's operations
 abbrev GivesOps : Problem → Rule → Type 0
@@ -132,47 +123,6 @@ root_plain problem f =
     let q = and_parts (is_op problem f) (is_op problem f && not (f == f)) p.0 in
     let r = and_parts (is_op problem f) (not (f == f)) q.1 in
     true≢false (sym (eq-eqb f f refl) ∙ not-true _ r.1))
-
-swap_then : (a b c d e f : ℕ) → (((a == c) && (b == d)) || ((a == d) && (b == c))) ≡ true → (((c == e) && (d == f)) || ((c == f) && (d == e))) ≡ true → (((a == e) && (b == f)) || ((a == f) && (b == e))) ≡ true
-swap_then a b c d e f p q =
-    or_cases ((a == c) && (b == d)) ((a == d) && (b == c)) p
-    (λ p1. let h = and_parts (a == c) (b == d) p1 in
-    or_cases ((c == e) && (d == f)) ((c == f) && (d == e)) q
-    (λ q1. let k = and_parts (c == e) (d == f) q1 in straight (eqb-true a c h.0 ∙ eqb-true c e k.0) (eqb-true b d h.1 ∙ eqb-true d f k.1))
-    (λ q1. let k = and_parts (c == f) (d == e) q1 in crossed (eqb-true a c h.0 ∙ eqb-true c f k.0) (eqb-true b d h.1 ∙ eqb-true d e k.1)))
-    (λ p1. let h = and_parts (a == d) (b == c) p1 in
-    or_cases ((c == e) && (d == f)) ((c == f) && (d == e)) q
-    (λ q1. let k = and_parts (c == e) (d == f) q1 in crossed (eqb-true a d h.0 ∙ eqb-true d f k.1) (eqb-true b c h.1 ∙ eqb-true c e k.0))
-    (λ q1. let k = and_parts (c == f) (d == e) q1 in straight (eqb-true a d h.0 ∙ eqb-true d e k.1) (eqb-true b c h.1 ∙ eqb-true c f k.0)))
-  where
-    straight : a ≡ e → b ≡ f → (((a == e) && (b == f)) || ((a == f) && (b == e))) ≡ true
-    straight x y = or_left ((a == e) && (b == f)) ((a == f) && (b == e)) (and_from (a == e) (b == f) (eq-eqb a e x) (eq-eqb b f y))
-
-    crossed : a ≡ f → b ≡ e → (((a == e) && (b == f)) || ((a == f) && (b == e))) ≡ true
-    crossed x y = or_right ((a == e) && (b == f)) ((a == f) && (b == e)) (and_from (a == f) (b == e) (eq-eqb a f x) (eq-eqb b e y))
-
-is_fact-then : (x y z : Fact) → is_fact x y ≡ true → is_fact y z ≡ true → is_fact x z ≡ true
-is_fact-then (Same a b) (Same c d) (Same e f) p q = swap_then a b c d e f p q
-is_fact-then (Apart a b) (Apart c d) (Apart e f) p q = swap_then a b c d e f p q
-is_fact-then (Before a b) (Before c d) (Before e f) p q =
-    let h = and_parts (a == c) (b == d) p in
-    let k = and_parts (c == e) (d == f) q in
-    and_from (a == e) (b == f) (eq-eqb a e (eqb-true a c h.0 ∙ eqb-true c e k.0)) (eq-eqb b f (eqb-true b d h.1 ∙ eqb-true d f k.1))
-is_fact-then (Same a b) (Same c d) (Apart e f) p q = absurd (true≢false (sym q))
-is_fact-then (Same a b) (Same c d) (Before e f) p q = absurd (true≢false (sym q))
-is_fact-then (Apart a b) (Apart c d) (Same e f) p q = absurd (true≢false (sym q))
-is_fact-then (Apart a b) (Apart c d) (Before e f) p q = absurd (true≢false (sym q))
-is_fact-then (Before a b) (Before c d) (Same e f) p q = absurd (true≢false (sym q))
-is_fact-then (Before a b) (Before c d) (Apart e f) p q = absurd (true≢false (sym q))
-is_fact-then (Same a b) (Apart c d) z p q = absurd (true≢false (sym p))
-is_fact-then (Same a b) (Before c d) z p q = absurd (true≢false (sym p))
-is_fact-then (Apart a b) (Same c d) z p q = absurd (true≢false (sym p))
-is_fact-then (Apart a b) (Before c d) z p q = absurd (true≢false (sym p))
-is_fact-then (Before a b) (Same c d) z p q = absurd (true≢false (sym p))
-is_fact-then (Before a b) (Apart c d) z p q = absurd (true≢false (sym p))
-
-pub symmetric-with : (facts : Facts) (x : Fact) → IsSymmetric facts → IsSymmetric (with_fact x facts)
-symmetric-with facts x s y z e k = or_cases (is_fact x y) (facts y) k (λ here. or_left (is_fact x z) (facts z) (is_fact-then x y z here e)) (λ there. or_right (is_fact x z) (facts z) (s y z e there))
 
 module _ (problem : Problem) (facts : Facts) (n f g h : ℕ) (x : Fact) (rule : Rule) (is : rule_named problem 2 n f g h ≡ Some rule) (a : applies problem facts rule ≡ true) (gives : rule.gives ≡ x) where
   operations : (list_all (is_op problem) rule.operations && all_pairs (λ f g. not (f == g)) rule.operations) ≡ true

@@ -30,10 +30,10 @@ use Rattle.arr_law.proofs.Members.{op_range}
 use Rattle.arr_law.proofs.Sums.{sum_below-le, sum_below-swap, sum_below-front, sum_by-const, all_both, sum_distinct}
 use Rattle.arr_cert.specs.Texts.{spaced, behind, first_text, group_text, takes_two, is_group_spelled, is_spelled, is_short}
 use Rattle.arr_state.specs.Steps.{given, third, Steps}
+use Rattle.arr_state.proofs.Basics.{by_bool}
 use Rattle.arr_state.proofs.Gives.{given-some, given_none}
 use Rattle.arr_search.specs.Counts.{bit}
 use Rattle.arr_search.specs.Nodes.{is_written}
-use Rattle.arr_search.proofs.Base.{by_bool}
 
 -- ---- numbers
 

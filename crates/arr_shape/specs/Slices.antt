@@ -3,7 +3,7 @@ use Rattle.std.specs.Prelude.{◌≡◌, ℕ, zero, suc, ◌+◌, ◌-◌, ◌<�
 use Rattle.std.specs.List.{range_with_len}
 use Rattle.arr_view.specs.Strided.{Strided}
 use Rattle.arr_view.specs.Views.{to_place}
-use Rattle.arr_shape.specs.Views.{place_at}
+use Rattle.arr_shape.specs.Views.{place_at, element_at}
 use Rattle.arr_shape.specs.declared.bounds.Slice.{Slice}
 use Rattle.arr_shape.specs.declared.bounds.Cut.{Cut}
 use Rattle.arr_shape.specs.declared.fault.ShapeFault.{ShapeFault}
@@ -109,6 +109,10 @@ taken (n ∷ ns) (slice ∷ slices) = taken_by n slice.start slice.stop slice.st
 abbrev pub picked : List (List ℕ) → List ℕ → List ℕ
 picked (xs ∷ rest) (i ∷ is) = get_or xs i 0 ∷ picked rest is
 picked _ _ = []
+
+-- the element of the view at an index of the slice
+abbrev pub sliced_element : Strided → List Slice → List ℕ → ℤ
+sliced_element v slices index = element_at v (picked (taken v.lengths slices) index)
 
 -- ---- what a cut keeps to
 

@@ -1,5 +1,5 @@
 -- What becomes of views.
-use Rattle.std.specs.Prelude.{ℕ, ℤ, pos, ◌+ℤ◌, ◌*ℤ◌, ◌-◌, List, [], ◌∷◌, ◌++◌, Bool, true, false, ◌||◌, ◌&&◌, ◌==◌, not, nat_lt, nat_le, if◌then◌else◌, cond, length, drop, replicate, reverse, unsigned_abs, Option, Some, None, Result, Ok, Err}
+use Rattle.std.specs.Prelude.{◌≡◌, ℕ, ℤ, pos, ◌+ℤ◌, ◌*ℤ◌, ◌-◌, List, [], ◌∷◌, ◌++◌, Bool, true, false, IsTrue, ◌||◌, ◌&&◌, ◌==◌, not, nat_lt, nat_le, if◌then◌else◌, cond, length, drop, replicate, reverse, unsigned_abs, Option, Some, None, Result, Ok, Err}
 use Rattle.std.specs.List.{list_all}
 use Rattle.arr_view.specs.Strided.{Strided}
 use Rattle.arr_view.specs.Views.{places, positions, most_elements, is_place, to_place, whole_strides, kept_strides}
@@ -24,6 +24,10 @@ is_index _ _ = false
 -- the element of a view at an index
 abbrev pub element_at : Strided → List ℕ → ℤ
 element_at v index = place_at (pos v.start) v.strides index
+
+-- the same element at each index of these lengths
+abbrev pub AgreeAt : List ℕ → (List ℕ → ℤ) → (List ℕ → ℤ) → Type 0
+AgreeAt ns left right = (index : List ℕ) → IsTrue (is_index ns index) → left index ≡ right index
 
 -- ---- spreading
 
@@ -58,10 +62,18 @@ own_index _ _ = []
 abbrev pub spread_from : List ℕ → List ℕ → List ℕ
 spread_from ns index = own_index ns (drop (length index - length ns) index)
 
+-- the element of the view at an index of a shape that it is spread to
+abbrev pub spread_element : Strided → List ℕ → ℤ
+spread_element v index = element_at v (spread_from v.lengths index)
+
 -- ---- turning round
 
 abbrev pub transpose : Strided → Strided
 transpose v = record { base = v.base; start = v.start; lengths = reverse v.lengths; strides = reverse v.strides }
+
+-- the element of a view at the index turned round
+abbrev pub turned_element : Strided → List ℕ → ℤ
+turned_element v index = element_at v (reverse index)
 
 -- ---- reshaping
 

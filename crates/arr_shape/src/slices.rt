@@ -1,10 +1,10 @@
 //! Slices of views.
-ghost use Rattle.std.specs.Prelude.{◌≡◌, ◌+◌, ◌-◌, ◌<◌, ◌≤◌, ◌/◌, ◌≤ℤ◌, ◌==◌, nat_le, true, Ok, Err, pos, negsuc, cond, unsigned_abs, IfOk, IsTrue, List, ℕ, length, Option, Some, None, suc};
+ghost use Rattle.std.specs.Prelude.{◌≡◌, ◌+◌, ◌-◌, ◌<◌, ◌≤◌, ◌/◌, ◌≤ℤ◌, ◌==◌, nat_le, true, Ok, Err, pos, negsuc, cond, unsigned_abs, IfOk, length, Option, Some, None, suc};
 ghost use Rattle.std.specs.List.{list_all};
 ghost use Rattle.std.specs.Result.{result_map_both};
 ghost use Rattle.arr_view.specs.Views.{most_elements, positions};
-ghost use Rattle.arr_shape.specs.Slices.{cut, cut_up, cut_down, whole_cut, all_cuts, cut_view, IsCut, AreCuts, taken, picked, slice};
-ghost use Rattle.arr_shape.specs.Views.{element_at, is_index};
+ghost use Rattle.arr_shape.specs.Slices.{cut, cut_up, cut_down, whole_cut, all_cuts, cut_view, IsCut, AreCuts, sliced_element, slice};
+ghost use Rattle.arr_shape.specs.Views.{AgreeAt, element_at};
 ghost use Rattle.arr_view.specs.Strided.{Strided};
 
 use crate::ShapeFault;
@@ -148,8 +148,7 @@ fn cut_view(view: &View, cuts: &[Cut]) -> View
 pub fn slice(view: &View, slices: &[Slice]) -> Result<View, ShapeFault>
     ensures view { result ≡ slice view.now slices.now }
     ensures elements { IfOk result
-        (λ (cut : Strided). (index : List ℕ) → IsTrue (is_index cut.lengths index) → element_at cut index
-        ≡ element_at view.now (picked (taken view.now.lengths slices.now) index)) }
+        (λ (cut : Strided). AgreeAt cut.lengths (element_at cut) (sliced_element view.now slices.now)) }
 {
     if slices.len() > view.shape().len() {
         return Err(ShapeFault::RankRange);

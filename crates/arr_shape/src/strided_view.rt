@@ -1,7 +1,6 @@
 //! Views of a base by their strides.
 ghost use Rattle.std.specs.Prelude.{◌≡◌, ◌≤◌, IfOk, IsTrue, map, nat_lt, option_map, pos, length};
 ghost use Rattle.std.specs.List.{list_all};
-ghost use Rattle.arr_view.specs.Strided.{Strided};
 ghost use Rattle.arr_view.specs.Views.{elements, places};
 ghost use Rattle.arr_shape.specs.Shapes.{is_shape};
 ghost use Rattle.arr_shape.specs.Views.{narrow, narrowed, strided};
@@ -57,8 +56,7 @@ pub fn strided(
 ) -> Result<View, ShapeFault>
     requires { IsTrue (is_shape shape.now) }
     ensures view { result ≡ strided base length start shape.now strides.now }
-    ensures elements { IfOk result
-        (λ (view : Strided). map pos (elements view) ≡ places shape.now strides.now (pos start)) }
+    ensures elements { IfOk result (λ v. map pos (elements v) ≡ places shape.now strides.now (pos start)) }
 {
     if strides.len() != shape.len() {
         return Err(ShapeFault::RankRange);

@@ -1,7 +1,7 @@
 //! Views that are spread, turned round or reshaped.
-ghost use Rattle.std.specs.Prelude.{◌≡◌, ◌≤◌, IfOk, IsTrue, List, ℕ, length, reverse};
+ghost use Rattle.std.specs.Prelude.{◌≡◌, ◌≤◌, IfOk, IsTrue, length, reverse};
 ghost use Rattle.arr_shape.specs.Shapes.{is_shape};
-ghost use Rattle.arr_shape.specs.Views.{element_at, is_index, spread_from, spread, transpose, reshape};
+ghost use Rattle.arr_shape.specs.Views.{AgreeAt, element_at, spread_element, turned_element, spread, transpose, reshape};
 ghost use Rattle.arr_view.specs.Strided.{Strided};
 ghost use Rattle.arr_view.specs.Views.{elements};
 
@@ -16,9 +16,7 @@ use arrayvec::ArrayVec;
 pub fn spread(view: &View, shape: &[u32]) -> Result<View, ShapeFault>
     requires { IsTrue (is_shape shape.now) }
     ensures view { result ≡ spread view.now shape.now }
-    ensures elements { IfOk result
-        (λ (wide : Strided). (index : List ℕ) → IsTrue (is_index shape.now index) → element_at wide index
-        ≡ element_at view.now (spread_from view.now.lengths index)) }
+    ensures elements { IfOk result (λ wide. AgreeAt shape.now (element_at wide) (spread_element view.now)) }
 {
     if view.shape().len() > shape.len() {
         return Err(ShapeFault::ShapeMismatch);
@@ -52,8 +50,7 @@ fn reversed<T: Copy + Default + Drop>(list: &[T]) -> ArrayVec<T, 4>
 /// The view with its dimensions in the opposite order: the element at an index is that of the view at the index turned round.
 pub fn transpose(view: &View) -> View
     ensures view { result ≡ transpose view.now }
-    ensures elements { (index : List ℕ) → IsTrue (is_index view.now.lengths index) → element_at result (reverse index)
-        ≡ element_at view.now index }
+    ensures elements { AgreeAt view.now.lengths (turned_element result) (element_at view.now) }
 {
     let shape = reversed(view.shape());
     let strides = reversed(view.strides());

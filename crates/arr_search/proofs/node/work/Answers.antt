@@ -1,11 +1,10 @@
-use Rattle.std.proofs.Common.{ℕ, List, subst, arith}
-use Rattle.arr_ops.specs.declared.op.Op.{Op}
+use Rattle.std.proofs.Common.{ℕ, arith}
 use Rattle.arr_law.specs.Facts.{facts_of}
 use Rattle.arr_law.specs.Problem.{Problem}
 use Rattle.arr_law.specs.ProblemOf.{problem_of}
 use Rattle.arr_bound.specs.Worth.{IsLargeLeaf}
 use Rattle.arr_state.specs.States.{known}
-use Rattle.arr_search.proofs.Nodes.{leaf_at_once, leaf_at_state, worked_at_once}
+use Rattle.arr_search.proofs.Nodes.{leaf_at_once, leaf_at_state, leaf_for, worked_at_once}
 use Rattle.arr_search.proofs.node.work.Goals as goal
 
 pub returns-then-worth-progress-clause-worked : goal.returns-then-worth-progress-clause-worked
@@ -20,5 +19,5 @@ returns-then-worth-progress-clause-worked c =
 
 pub work_by-requires-clause-low : goal.work_by-requires-clause-low
 work_by-requires-clause-low c =
-    let leaf : IsLargeLeaf (problem_of c.args.graph.now) (known c.args.state.now) c.in_ok-worth.worth c.in_ok-worth.groups = subst (λ (l : List Op). IsLargeLeaf (problem_of l) (known c.args.state.now) c.in_ok-worth.worth c.in_ok-worth.groups) c.requires.views c.in_ok-worth.ensures in
+    let leaf = leaf_for c.args.graph.now c.args.views.now (known c.args.state.now) c.in_ok-worth.worth c.in_ok-worth.groups c.requires.views c.in_ok-worth.ensures in
     omega (arith, leaf.over_floor, c.if-worth-progress.false)
