@@ -1,2 +1,3 @@
 pub mod RowsBy
 pub mod ClassTests
+pub mod Turned

@@ -2,7 +2,7 @@
 use Rattle.std.proofs.Common.{◌≡◌, ℕ, zero, suc, ◌+◌, ◌<◌, ◌≤◌, List, [], ◌∷◌, ◌++◌, Bool, true, false, length, map, take, get_or, set, replicate, refl, ap, ap₂, sym, subst, ◌∙◌, arith}
 use Rattle.std.specs.Prelude.{nat_lt}
 use Rattle.std.proofs.lemmas.Bool.{ltb-true, ltb-false}
-use Rattle.std.proofs.lemmas.List.{get_or-set_same, get_or-set_other, length-set, length-replicate, length-map, take_all, take_more}
+use Rattle.std.proofs.lemmas.List.{get_or-set_same, get_or-set_other, length-set, length-replicate, length-map, get_or-take, take_all, take_more}
 
 pub record Row {X : Type 0} (test : X → Bool) (none : X) (xs : List X) (i : ℕ) (row : List Bool) : Type 0 where
   pub long : length row ≡ length xs
@@ -57,21 +57,6 @@ by_places test (b ∷ row) (x ∷ xs) none long each =
 pub whole : {X : Type 0} (test : X → Bool) (none : X) (xs : List X) (i : ℕ) (row : List Bool) → length xs ≤ i → Row test none xs i row → row ≡ map test xs
 whole test none xs i row end known = by_places test row xs none known.long (λ k h. known.done k (omega arith))
 
--- ---- all rows, one after another
-
-map_end : {A B : Type 0} (f : A → B) (xs : List A) (x : A) → map f (xs ++ x ∷ []) ≡ map f xs ++ f x ∷ []
-map_end f [] x = refl
-map_end f (y ∷ xs) x = ap (λ r. f y ∷ r) (map_end f xs x)
-
-pub one_more : {X Y : Type 0} (f : X → Y) (none : X) (xs : List X) (rows : List Y) (i : ℕ) (row : Y) → i < length xs
-    → rows ≡ map f (take i xs) → row ≡ f (get_or xs i none) → rows ++ row ∷ [] ≡ map f (take (i + 1) xs)
-one_more f none xs rows i row inside known e =
-    ap₂ (λ rs r. rs ++ r ∷ []) known e ∙ sym (map_end f (take i xs) (get_or xs i none))
-    ∙ ap (map f) (sym (take_more xs i none inside))
-
-pub all_rows : {X Y : Type 0} (f : X → Y) (xs : List X) (rows : List Y) (i : ℕ) → length xs ≤ i → rows ≡ map f (take i xs) → rows ≡ map f xs
-all_rows f xs rows i end known = known ∙ ap (map f) (take_all i xs end)
-
 pub at_map : {A B : Type 0} (f : A → B) (xs : List A) (i : ℕ) (d : A) (e : B) → i < length xs → get_or (map f xs) i e ≡ f (get_or xs i d)
 at_map f [] i d e h = absurd (omega arith)
 at_map f (x ∷ xs) zero d e h = refl
@@ -82,11 +67,32 @@ any_default [] i d e h = absurd (omega arith)
 any_default (x ∷ xs) zero d e h = refl
 any_default (x ∷ xs) (suc i) d e h = any_default xs i d e (omega arith)
 
+-- ---- all rows, one after another
+
+-- for each value, what a test of two says of it and of each
+abbrev table : {X : Type 0} → (X → X → Bool) → List X → List (List Bool)
+table test xs = map (λ x. map (test x) xs) xs
+
+pub one_more : {X : Type 0} (test : X → X → Bool) (none : X) (xs : List X) (rows : List (List Bool)) (i : ℕ) (row : List Bool) → i < length xs
+    → rows ≡ take i (table test xs) → row ≡ map (test (get_or xs i none)) xs → rows ++ row ∷ [] ≡ take (i + 1) (table test xs)
+one_more test none xs rows i row inside known e =
+    ap₂ (λ rs r. rs ++ r ∷ []) known (e ∙ sym (at_map (λ x. map (test x) xs) xs i none [] inside))
+    ∙ sym (take_more (table test xs) i [] (omega (arith, inside, length-map xs (λ x. map (test x) xs))))
+
+pub all_rows : {X : Type 0} (test : X → X → Bool) (xs : List X) (rows : List (List Bool)) (i : ℕ) → length xs ≤ i → rows ≡ take i (table test xs) → rows ≡ table test xs
+all_rows test xs rows i end known = known ∙ take_all i (table test xs) (omega (arith, end, length-map xs (λ x. map (test x) xs)))
+
 -- ---- a bit of a table
 
-pub row_of : {X : Type 0} (test : X → X → Bool) (xs : List X) (rows : List (List Bool)) (f : ℕ) (row : List Bool) (none : X) → rows ≡ map (λ x. map (test x) xs) xs → f < length xs → row ≡ get_or rows f row
+pub row_of : {X : Type 0} (test : X → X → Bool) (xs : List X) (rows : List (List Bool)) (f : ℕ) (row : List Bool) (none : X) → rows ≡ table test xs → f < length xs → row ≡ get_or rows f row
     → row ≡ map (test (get_or xs f none)) xs
 row_of test xs rows f row none e l h = h ∙ ap (λ rs. get_or rs f row) e ∙ at_map (λ x. map (test x) xs) xs f none row l
+
+-- one of the first few rows
+pub row_before : {X : Type 0} (test : X → X → Bool) (xs : List X) (rows : List (List Bool)) (f g : ℕ) (row : List Bool) (none : X) → rows ≡ take f (table test xs) → g < f → f < length xs → row ≡ get_or rows g row
+    → row ≡ map (test (get_or xs g none)) xs
+row_before test xs rows f g row none e less l h =
+    h ∙ ap (λ rs. get_or rs g row) e ∙ get_or-take f (table test xs) g row less ∙ at_map (λ x. map (test x) xs) xs g none row (omega arith)
 
 pub row_long : {X : Type 0} (test : X → Bool) (xs : List X) (row : List Bool) → row ≡ map test xs → length row ≡ length xs
 row_long test xs row e = ap length e ∙ length-map xs test

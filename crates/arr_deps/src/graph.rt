@@ -47,11 +47,14 @@ impl Graph {
         let views = all_views(alloc, ops)?;
         let classes = Classes::of(alloc, views.as_slice())?;
         let table = class_table(alloc, &classes, ops)?;
+        let serials = serial_row(alloc, &classes, ops, table.as_slice())?;
+        let deps = dep_rows(alloc, &classes, ops, table.as_slice())?;
+        let fuses = fuse_rows(alloc, &classes, ops, table.as_slice(), &serials)?;
         Ok(Graph {
             ops: copied_ops(alloc, ops)?,
-            serials: serial_row(alloc, &classes, ops, table.as_slice())?,
-            deps: dep_rows(alloc, &classes, ops, table.as_slice())?,
-            fuses: fuse_rows(alloc, &classes, ops, table.as_slice())?,
+            serials,
+            deps,
+            fuses,
         })
     }
 

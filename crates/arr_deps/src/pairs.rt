@@ -145,23 +145,27 @@ fn same_walk(f: &Op, g: &Op) -> bool
     same_shape(left, right)
 }
 
-/// Whether two operations may share a block.
+/// Whether two operations may share a block, where it is known of each whether it is serial.
 pub(crate) fn may_fuse(
     classes: &Classes,
     f: &Op,
     g: &Op,
     f_classes: &Classed,
     g_classes: &Classed,
+    f_serial: bool,
+    g_serial: bool,
 ) -> bool
     requires first { Stands classes.now f.now f_classes.now }
     requires second { Stands classes.now g.now g_classes.now }
+    requires f_serial { f_serial ≡ serial f.now }
+    requires g_serial { g_serial ≡ serial g.now }
     ensures { result ≡ fusible f.now g.now }
 {
     if f.frees.is_some() || g.frees.is_some() {
         return true;
     }
-    !is_serial(classes, f, f_classes)
-        && !is_serial(classes, g, g_classes)
+    !f_serial
+        && !g_serial
         && same_walk(f, g)
         && !crosses(classes, f, g, f_classes, g_classes)
         && !crosses(classes, g, f, g_classes, f_classes)

@@ -1,5 +1,4 @@
-use Rattle.std.proofs.Common.{◌∙◌, map}
-use Rattle.arr_ops.specs.declared.op.Op.{Op}
+use Rattle.std.proofs.Common.{◌∙◌}
 use Rattle.arr_ops.specs.Ops.{dep}
 use Rattle.arr_deps.specs.Graph.{nothing}
 use Rattle.arr_deps.proofs.RowsBy.{one_more, all_rows}
@@ -8,7 +7,7 @@ use Rattle.arr_deps.proofs.tables.dep_rows.Goals as goal
 pub loop-f-preserved : goal.loop-f-preserved
 loop-f-preserved c =
     c.in_ok-push.ensures.items
-    ∙ one_more (λ (f : Op). map (dep f) c.args.ops.now) nothing c.args.ops.now c.loop-f.rows.items c.loop-f.f c.in_ok-dep_row.field-0 c.loop-f-test.true c.loop-f.invariant c.in_ok-dep_row.ensures
+    ∙ one_more dep nothing c.args.ops.now c.loop-f.rows.items c.loop-f.f c.in_ok-row.row c.loop-f-test.true c.loop-f.invariant c.in_ok-row.ensures
 
 pub returns : goal.returns
-returns c = all_rows (λ (f : Op). map (dep f) c.args.ops.now) c.args.ops.now c.loop-f.rows.items c.loop-f.f c.loop-f-test.false c.loop-f.invariant
+returns c = all_rows dep c.args.ops.now c.loop-f.rows.items c.loop-f.f c.loop-f-test.false c.loop-f.invariant
