@@ -1,2 +1,3 @@
 pub mod Spares
 pub mod Lanes
+pub mod Sums

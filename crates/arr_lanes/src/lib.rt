@@ -1,14 +1,16 @@
 //! Lanes: the numbers of a strip, side by side, and lines of opcodes over them.
 //!
 //! A walk in strips keeps, for each view of its block, a lane: the numbers that the view has at the positions of the strip. A
-//! [`Line`] is an operation over lanes, for all positions of the strip at once. Its result is computed into a spare list of its
-//! type, which then changes places with the lane that it is for; so a line may read the lane that it writes.
+//! [`Line`] is an operation over lanes, for all positions of the strip at once, and a [`Sum`] adds three or five lanes in one loop.
+//! The result is computed into a spare list of its type, which then changes places with the lane that it is for; so a line or a sum
+//! may read the lane that it writes.
 //!
-//! The promise: after a line its lane holds the value of its opcode, as `arr_num` defines it, at each position, and every other
-//! lane is as it was. No call but `Spares::new` takes memory.
+//! The promise: after a line its lane holds the value of its opcode, as `arr_num` defines it, at each position, after a sum the sum,
+//! and every other lane is as it was. No call but `Spares::new` takes memory.
 //!
 //! The definitions: `specs/Lanes.antt` has the number at a place of a lane, what a line computes (`work_value`), and the line of
-//! `arr_strips` that it stands for (`shown`); `ran` of `arr_strips` runs lines at one position.
+//! `arr_strips` that it stands for (`shown`); `ran` of `arr_strips` runs lines at one position. `specs/Sums.antt` has the sum at a
+//! place (`sum_value`).
 #![tactic(auto)]
 
 mod fill;
@@ -16,9 +18,11 @@ mod lane;
 mod line;
 mod spares;
 mod strip;
+mod sum;
 
 pub use fill::numbers_of;
 pub use lane::Lane;
 pub use line::{Line, Work, put, run_line};
 pub use spares::Spares;
 pub use strip::Strip;
+pub use sum::{Sum, run_sum};

@@ -1,7 +1,7 @@
 ghost use Rattle.std.specs.Prelude.{◌≡◌, ℕ, ◌<◌, ◌≤◌, ◌+◌, IfSome, IsTrue, length, pos};
 ghost use Rattle.arr_num.specs.Numbers.{value, wrap};
 ghost use Rattle.arr_native.specs.Entries.{entry};
-ghost use Rattle.arr_vector.specs.Sorts.{is_arithmetic, is_comparison};
+ghost use Rattle.arr_vector.specs.Sorts.{is_arithmetic, is_comparison, plus};
 
 use arr_native::Native;
 use arr_num::{Code, Elem};
@@ -74,6 +74,41 @@ pub fn compute<T: Native>(code: Code, out: &mut [T], a: &[T], b: &[T], count: us
             Absolute,
             Invert
         ),
+    }
+}
+
+/// The first `count` sums of the numbers of three lists, from the left (docs/LANGUAGE.md, "Opcodes"). Both additions stand in one loop, so
+/// that the first sum is never written.
+pub fn add_three<T: Native>(out: &mut [T], a: &[T], b: &[T], c: &[T], count: usize)
+    requires out { count ≤ length out.old }
+    requires a { count ≤ length a.now }
+    requires b { count ≤ length b.now }
+    requires c { count ≤ length c.now }
+    ensures length { length out.new ≡ length out.old }
+    ensures each { (i : ℕ) → i < count → entry T.number out.new i
+        ≡ plus T.elem (plus T.elem (entry T.number a.now i) (entry T.number b.now i)) (entry T.number c.now i) }
+{
+    for i in 0..count {
+        out[i] = T::compute(Code::Add, T::compute(Code::Add, a[i], b[i]), c[i]);
+    }
+}
+
+/// The first `count` sums of the numbers of five lists, from the left, as `add_three`.
+pub fn add_five<T: Native>(out: &mut [T], a: &[T], b: &[T], c: &[T], d: &[T], e: &[T], count: usize)
+    requires out { count ≤ length out.old }
+    requires a { count ≤ length a.now }
+    requires b { count ≤ length b.now }
+    requires c { count ≤ length c.now }
+    requires d { count ≤ length d.now }
+    requires e { count ≤ length e.now }
+    ensures length { length out.new ≡ length out.old }
+    ensures each { (i : ℕ) → i < count → entry T.number out.new i
+        ≡ plus T.elem (plus T.elem (plus T.elem (plus T.elem (entry T.number a.now i) (entry T.number b.now i))
+        (entry T.number c.now i)) (entry T.number d.now i)) (entry T.number e.now i) }
+{
+    for i in 0..count {
+        let three = T::compute(Code::Add, T::compute(Code::Add, a[i], b[i]), c[i]);
+        out[i] = T::compute(Code::Add, T::compute(Code::Add, three, d[i]), e[i]);
     }
 }
 
