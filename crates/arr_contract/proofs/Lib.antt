@@ -9,3 +9,4 @@ pub mod Tasking
 pub mod Parallel
 pub mod Sums
 pub mod KeptNumbers
+pub mod Links

@@ -5,7 +5,7 @@ use Rattle.arr_num.specs.Kinds.{Kind, Reduction, binds_one, binds_two, counts, f
 use Rattle.arr_ops.specs.declared.op.Op.{Op}
 use Rattle.arr_store.specs.declared.buffer.Buffer.{Buffer}
 use Rattle.arr_machine.specs.declared.task.Task.{Task}
-use Rattle.arr_machine.specs.declared.task.Task.TheVariants.{Line, Scan, Fold, Show, Nothing}
+use Rattle.arr_machine.specs.declared.task.Task.TheVariants.{Line, Link, Scan, Fold, Show, Nothing}
 use Rattle.arr_machine.specs.declared.walk.Machine.{Machine}
 use Rattle.arr_machine.specs.Kept.{kept_from}
 use Rattle.arr_machine.specs.Machines.{IsMachineOf}
@@ -24,6 +24,7 @@ Folds at _ = ⊥
 
 fold_task : (ops : List Op) (room : ℕ) (lanes : List Buffer) (k : ℕ) (op : Op) (task : Task) → is_reduction op.code ≡ true → IsTask ops room lanes k op task → Folds (kept_from ops k) task
 fold_task ops room lanes k op (Line line) red t = not_both (kind op.code) t.0 red
+fold_task ops room lanes k op (Link line) red t = not_both (kind op.code) t.0.0 red
 fold_task ops room lanes k op (Scan along dest) red t = false≢true (sym (ap folds t.0) ∙ red)
 fold_task ops room lanes k op (Fold along) red t = t.1.kept
 fold_task ops room lanes k op (Show slot lane) red t = false≢true (sym (ap folds t.0) ∙ red)

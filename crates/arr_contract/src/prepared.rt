@@ -194,7 +194,8 @@ impl Prepared {
     {
         match self.machine.tasks[place] {
             Task::Fold(along) => along.kept,
-            Task::Line(_) | Task::Scan(_, _) | Task::Show(_, _) | Task::Nothing => unreachable!(),
+            Task::Line(_) | Task::Link(_) | Task::Scan(_, _) | Task::Show(_, _) | Task::Nothing =>
+                unreachable!(),
         }
     }
 

@@ -1,18 +1,22 @@
 //! The task of each operation of a block.
-ghost use Rattle.std.specs.Prelude.{ℕ, ◌≡◌, ◌+◌, ◌*◌, ◌<◌, ◌≤◌, IfOk, Some, drop, get_or, length, map, nat_le, pos, suc, take, true};
-ghost use Rattle.std.specs.List.{list_all};
+ghost use Rattle.std.specs.Prelude.{ℕ, ◌≡◌, ◌+◌, ◌*◌, ◌<◌, ◌≤◌, IfOk, Some, drop, get_or, length, map, nat_le, pos, suc, take, false, true};
+ghost use Rattle.std.specs.List.{flat_map, list_all};
 ghost use Rattle.arr_num.specs.Kinds.{is_element_wise, is_fold};
 ghost use Rattle.arr_view.specs.Views.{most_elements, positions};
 ghost use Rattle.arr_ops.specs.Formed.{each_typed, well_formed};
 ghost use Rattle.arr_ops.specs.Memory.{or_zero};
+ghost use Rattle.arr_ops.specs.Ops.{inputs, view_of};
 ghost use Rattle.arr_store.specs.Buffers.{cell_of};
 ghost use Rattle.arr_strips.specs.Registers.{number_in, register_views};
+ghost use Rattle.arr_strips.specs.Strips.{loaded};
 ghost use Rattle.arr_machine.specs.Kept.{kept_from};
 ghost use Rattle.arr_machine.specs.Tasks.{AreTasks, IsAlongAt, IsTask, Stands, WorkOf};
 ghost use Rattle.arr_contract.specs.Making.{IsExponent, kept_second, lane_cells, operand_lane};
+ghost use Rattle.arr_machine.specs.Needed.{needed};
 ghost use Rattle.arr_ops.specs.declared.op.Op.{Op};
 
 use crate::NoMemory;
+use crate::contracted::frees;
 use crate::scratch::kept_for;
 use arr_lanes::{Line, Work};
 use arr_machine::{Along, Task};
@@ -149,6 +153,48 @@ fn along_of(views: &[View], op: &Op, kept: usize) -> Along
     }
 }
 
+/// Whether an operation of a block reads a view.
+fn reads(op: &Op, view: &View) -> bool
+    ensures { result ≡ loaded (inputs op.now) view.now }
+{
+    is_view(&op.first, view) || is_view(&op.second, view)
+}
+
+/// Whether an operand is a view.
+fn is_view(operand: &Option<Operand>, view: &View) -> bool
+    ensures { result ≡ loaded (view_of operand.now) view.now }
+{
+    match operand {
+        Some(Operand::Array(input)) => identical(input, view),
+        _ => false,
+    }
+}
+
+/// Whether some operation from an index on reads a view.
+fn is_read_from(ops: &[Op], index: usize, view: &View) -> bool
+    ensures { result ≡ loaded (flat_map inputs (drop index ops.now)) view.now }
+{
+    ops.iter().skip(index).any(|op| reads(op, view))
+}
+
+/// Whether an operation adds numbers.
+fn adds(ops: &[Op], index: usize) -> bool
+    ensures { result ≡ true → index < length ops.now }
+{
+    index < ops.len() && matches!(ops[index].code, Code::Add)
+}
+
+/// Whether an addition of a block is followed by another, and its result is neither stored by the walk nor read behind that one.
+fn is_link(ops: &[Op], index: usize, out: &View) -> bool
+    requires few { length ops.now ≤ 256 }
+    ensures { result ≡ true → needed ops.now (index + 2) out.now ≡ false }
+{
+    adds(ops, index)
+        && adds(ops, index + 1)
+        && frees(ops, out.base())
+        && !is_read_from(ops, index + 2, out)
+}
+
 /// The task of the operation of a block with an index. Two lanes for its constants stand behind those of the operations before it, and
 /// what is kept for it begins at a place.
 fn task_of(
@@ -193,11 +239,12 @@ fn task_of(
         });
     };
     let second = second_lane_of(views, op, constants + 1, first);
-    Task::Line(Line {
+    let line = Line {
         work: work_of(ops, lanes, op, first, second, room),
         to: op.to,
         dest,
-    })
+    };
+    Task::Line(line)
 }
 
 /// The tasks of the operations of a block.

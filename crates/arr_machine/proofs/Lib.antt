@@ -1,11 +1,14 @@
 pub mod Axes
 pub mod Blocks
+pub mod Needs
+pub mod Tasks
 pub mod Steps
 pub mod Few
 pub mod Starts
 pub mod Types
 pub mod Operands
 pub mod Lines
+pub mod Chains
 pub mod Reductions
 pub mod Scans
 pub mod Shows

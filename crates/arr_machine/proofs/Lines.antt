@@ -8,18 +8,17 @@ use Rattle.arr_view.specs.Strided.{Strided}
 use Rattle.arr_ops.specs.declared.op.Op.{Op}
 use Rattle.arr_ops.specs.Memory.{Slot}
 use Rattle.arr_store.specs.declared.buffer.Buffer.{Buffer}
-use Rattle.arr_strips.specs.Columns.{column, ends, fills}
+use Rattle.arr_strips.specs.Columns.{Columns, column, ends, fills}
 use Rattle.arr_strips.specs.Registers.{line_value, number_in, register_views}
 use Rattle.arr_strips.proofs.Sorts.{sorts}
 use Rattle.arr_strips.proofs.Values.{column_zip, zips}
 use Rattle.arr_lanes.specs.declared.line.Line.{Line}
 use Rattle.arr_lanes.specs.Lanes.{Becomes, IsLane, LineFits, number, registers, shown}
 use Rattle.arr_lanes.proofs.Places.{becomes_number, lane_stays}
-use Rattle.arr_machine.specs.declared.task.Task.TheVariants.{Line as line_task}
-use Rattle.arr_machine.specs.Standing.{Advances, IsStripOf}
-use Rattle.arr_machine.specs.Tasks.{IsTask, Steady, TypedLanes}
+use Rattle.arr_machine.specs.Standing.{Advances, IsStripOf, Standing}
+use Rattle.arr_machine.specs.Tasks.{IsLine, Steady, TypedLanes}
 use Rattle.arr_machine.proofs.Blocks.{register_below}
-use Rattle.arr_machine.proofs.Operands.{work_fits, work_value, zips_all}
+use Rattle.arr_machine.proofs.Operands.{Behind, work_fits, work_value, zips_all}
 use Rattle.arr_machine.proofs.Steps.{inputs_on, kept_step, output_on, quiet, row_filled, row_first, row_second, shows_none, well}
 use Rattle.arr_machine.proofs.Types.{inputs_of_type, output_of_type}
 
@@ -52,7 +51,7 @@ module _ (ops : List Op) (t : _) (room count dest : ℕ) (wanted : ℕ → ℤ) 
   typed_one typed v on = steady_one.types _ (number_in (register_views ops) v) (typed v on)
 
 module _ (ops : List Op) (p c room : ℕ) (t : IsStripOf ops p c room) (k : ℕ) (op : Op) (l : k < length ops) (e : op ≡ get_or ops k op) (line : Line) (lanes : List Buffer)
-    (task : IsTask ops room lanes k op (line_task line)) (typed : TypedLanes ops room lanes) where
+    (task : IsLine ops room lanes op line) (typed : TypedLanes ops room lanes) where
   out : Strided
   out = task.1.1.1.0
 
@@ -82,13 +81,14 @@ module _ (ops : List Op) (p c room : ℕ) (t : IsStripOf ops p c room) (k : ℕ)
     dest_typed,
   )
 
-  module _ (new : List Buffer) (b : Becomes line.to room c line.dest (λ i. line_value (p + i) (registers lanes i) (shown line)) lanes new) (xs : List ℤ) (slots : ℕ → Option Slot) where
-    pub line_stands : Advances ops p c k (k + 1) lanes xs slots new xs slots
-    line_stands h start s =
+  -- from registers that held something, to others that hold the line's values besides
+  module _ (held now : ℕ → ℕ → ℤ) (behind : Behind ops lanes held) (is : (r i : ℕ) → i < c → now r i ≡ cond (line.dest == r) (line_value (p + i) (λ q. held q i) (shown line)) (held r i)) (xs : List ℤ) (slots : ℕ → Option Slot) where
+    pub line_held : (h : Columns) (start : ℕ → Option Slot) → Standing ops p c k h start held xs slots → Standing ops p c (k + 1) h start now xs slots
+    line_held h start s =
         record {
-          row = row_filled ops p c room t k op l e h start lanes xs slots s out new fill (output_on ops p c room t k op l e out out_is) number_is;
-          kept = kept_step ops p c room t k op l e h start lanes xs slots s xs (λ j f lj ej ne i u. refl) (quiet ops p c room t k op l e h start lanes xs slots s plain (not_scan (kind op.code) zip) xs);
-          shown = shows_none ops p c room t k op l e h start lanes xs slots s no_slot;
+          row = row_filled ops p c room t k op l e h start held xs slots s out now fill (output_on ops p c room t k op l e out out_is) number_is;
+          kept = kept_step ops p c room t k op l e h start held xs slots s xs (λ j f lj ej ne i u. refl) (quiet ops p c room t k op l e h start held xs slots s plain (not_scan (kind op.code) zip) xs);
+          shown = shows_none ops p c room t k op l e h start held xs slots s no_slot;
         }
       where
         plain : is_reduction op.code ≡ false
@@ -105,15 +105,16 @@ module _ (ops : List Op) (p c room : ℕ) (t : IsStripOf ops p c room) (k : ℕ)
         fill : fills op ≡ Some out
         fill = ap (λ z. cond z None op.out) plain ∙ out_is
 
-        column_is : (i : ℕ) → i < c → line_value (p + i) (registers lanes i) (shown line) ≡ column op (ends (take k ops) h) (p + i)
+        column_is : (i : ℕ) → i < c → line_value (p + i) (λ q. held q i) (shown line) ≡ column op (ends (take k ops) h) (p + i)
         column_is i u =
             let within : c ≤ room = t.within in
-            ap (λ y. line_value (p + i) (registers lanes i) (Rattle.arr_lanes.specs.Lanes.shown_work line.work y line.dest)) task.1.1.0
-            ∙ work_value ops room lanes op (well ops p c room t k op l e) i (p + i) (ends (take k ops) h (p + i)) (omega arith) (row_first ops p c room t k op l e h start lanes xs slots s i u)
-            (row_second ops p c room t k op l e h start lanes xs slots s i u) line.work line.dest task.1.0
+            ap (λ y. line_value (p + i) (λ q. held q i) (Rattle.arr_lanes.specs.Lanes.shown_work line.work y line.dest)) task.1.1.0
+            ∙ work_value ops room lanes op (well ops p c room t k op l e) held behind i (p + i) (ends (take k ops) h (p + i)) (omega arith) (row_first ops p c room t k op l e h start held xs slots s i u)
+            (row_second ops p c room t k op l e h start held xs slots s i u) line.work line.dest task.1.0
             ∙ sym (column_zip (kind op.code) op (ends (take k ops) h) (p + i) zip)
 
-        number_is : (r i : ℕ) → i < c → number new r i ≡ cond (number_in (register_views ops) out == r) (column op (ends (take k ops) h) (p + i)) (number lanes r i)
-        number_is r i u =
-            becomes_number line.to room c line.dest (λ i. line_value (p + i) (registers lanes i) (shown line)) lanes new b r i u
-            ∙ ap₂ (λ d z. cond (d == r) z (number lanes r i)) dest_is (column_is i u)
+        number_is : (r i : ℕ) → i < c → now r i ≡ cond (number_in (register_views ops) out == r) (column op (ends (take k ops) h) (p + i)) (held r i)
+        number_is r i u = is r i u ∙ ap₂ (λ d z. cond (d == r) z (held r i)) dest_is (column_is i u)
+
+  pub line_stands : (new : List Buffer) → Becomes line.to room c line.dest (λ i. line_value (p + i) (registers lanes i) (shown line)) lanes new → (xs : List ℤ) (slots : ℕ → Option Slot) → Advances ops p c k (k + 1) lanes xs slots new xs slots
+  line_stands new b xs slots = line_held (number lanes) (number new) (λ r l i. refl) (becomes_number line.to room c line.dest (λ i. line_value (p + i) (registers lanes i) (shown line)) lanes new b) xs slots

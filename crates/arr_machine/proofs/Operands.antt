@@ -1,5 +1,5 @@
 -- Operands of element-wise operations, by their lanes.
-use Rattle.std.proofs.Common.{◌≡◌, ℕ, ◌<◌, ℤ, pos, List, Bool, true, false, ◌||◌, Option, Some, None, refl, ap, ap₂, sym, subst, ◌∙◌}
+use Rattle.std.proofs.Common.{◌≡◌, ℕ, ◌<◌, ◌≤◌, ℤ, pos, List, Bool, true, false, ◌||◌, Option, Some, None, length, refl, ap, ap₂, sym, subst, ◌∙◌}
 use Rattle.std.specs.Prelude.{is_none, is_some, slice_get}
 use Rattle.std.specs.List.{AllByRecursion}
 use Rattle.std.proofs.lemmas.Bool.{false≢true, true≢false}
@@ -26,7 +26,7 @@ use Rattle.arr_strips.specs.Strips.{loaded}
 use Rattle.arr_strips.proofs.Values.{zips}
 use Rattle.arr_lanes.specs.declared.line.Work.{Work}
 use Rattle.arr_lanes.specs.declared.line.Work.TheVariants.{Arithmetic, Comparison, Power, Conversion, Positions}
-use Rattle.arr_lanes.specs.Lanes.{IsLane, WorkFits, number, registers, shown_work}
+use Rattle.arr_lanes.specs.Lanes.{IsLane, WorkFits, number, shown_work}
 use Rattle.arr_machine.specs.Tasks.{Stands, TypedLanes, WorkOf}
 
 -- ---- codes
@@ -128,12 +128,17 @@ no_second Unary op h kept = none_from op.second (both_right (is_some op.first) _
 no_second Counting op h kept = none_from op.second (both_right (is_none op.first) _ (both_right (elementwise op) _ kept))
 no_second _ op h kept = absurd (false≢true h)
 
+-- behind the registers it is what lanes hold
+abbrev pub Behind : List Op → List Buffer → (ℕ → ℕ → ℤ) → Type 0
+Behind ops lanes held = (r : ℕ) → length (register_views ops) ≤ r → (i : ℕ) → held r i ≡ number lanes r i
+
 module _ (ops : List Op) (room : ℕ) (lanes : List Buffer) where
-  stands_number : (t : Elem) (o : Option Operand) (lane i : ℕ) (row : Row) → i < room → Stands ops room lanes t o lane
-      → AllByRecursion (λ v. number lanes (number_in (register_views ops) v) i ≡ row v) (view_of o) → (o ≡ None → ⊥) → number lanes lane i ≡ taken row o
-  stands_number t None lane i row u s h n = absurd (n refl)
-  stands_number t (Some (Number z)) lane i row u s h n = s.each i u
-  stands_number t (Some (Array v)) lane i row u s h n = ap (λ r. number lanes r i) s ∙ h.0
+  -- what registers hold, and lanes behind them, where an operand stands
+  stands_number : (held : ℕ → ℕ → ℤ) → Behind ops lanes held → (t : Elem) (o : Option Operand) (lane i : ℕ) (row : Row) → i < room → Stands ops room lanes t o lane
+      → AllByRecursion (λ v. held (number_in (register_views ops) v) i ≡ row v) (view_of o) → (o ≡ None → ⊥) → held lane i ≡ taken row o
+  stands_number held behind t None lane i row u s h n = absurd (n refl)
+  stands_number held behind t (Some (Number z)) lane i row u s h n = behind lane s.behind i ∙ s.each i u
+  stands_number held behind t (Some (Array v)) lane i row u s h n = ap (λ r. held r i) s ∙ h.0
 
   pub stands_typed : (t : Elem) (o : Option Operand) (lane : ℕ) → TypedLanes ops room lanes → AllByRecursion (λ v. loaded (register_views ops) v ≡ true) (view_of o)
       → AllByRecursion (λ (v : Strided). elem_of ops v.base ≡ t) (view_of o) → Stands ops room lanes t o lane → IsLane t room (slice_get lanes lane)
@@ -153,41 +158,41 @@ module _ (ops : List Op) (room : ℕ) (lanes : List Buffer) where
     kept_operands = operands_of op well
 
     -- of each work the value of its operation
-    module _ (i q : ℕ) (row : Row) (u : i < room) (firsts : AllByRecursion (λ v. number lanes (number_in (register_views ops) v) i ≡ row v) (view_of op.first))
-        (seconds : AllByRecursion (λ v. number lanes (number_in (register_views ops) v) i ≡ row v) (view_of op.second)) where
+    module _ (held : ℕ → ℕ → ℤ) (behind : Behind ops lanes held) (i q : ℕ) (row : Row) (u : i < room) (firsts : AllByRecursion (λ v. held (number_in (register_views ops) v) i ≡ row v) (view_of op.first))
+        (seconds : AllByRecursion (λ v. held (number_in (register_views ops) v) i ≡ row v) (view_of op.second)) where
       abbrev pub wanted : ℤ
       wanted = value op.code op.to (first_taken op.code q row op.first) (taken row op.second)
 
-      first_is : (lane : ℕ) → (is_binary op.code || is_unary op.code) ≡ true → Stands ops room lanes op.from op.first lane → number lanes lane i ≡ first_taken op.code q row op.first
-      first_is lane some s = stands_number op.from op.first lane i row u s firsts (has_first (kind op.code) op some kept_operands) ∙ sym (first_plain op.code q row op.first some)
+      first_is : (lane : ℕ) → (is_binary op.code || is_unary op.code) ≡ true → Stands ops room lanes op.from op.first lane → held lane i ≡ first_taken op.code q row op.first
+      first_is lane some s = stands_number held behind op.from op.first lane i row u s firsts (has_first (kind op.code) op some kept_operands) ∙ sym (first_plain op.code q row op.first some)
 
-      second_is : (lane : ℕ) (x : ℤ) → is_arithmetic op.code ≡ true → Stands ops room lanes op.from op.second lane → value op.code op.to x (number lanes lane i) ≡ value op.code op.to x (taken row op.second)
+      second_is : (lane : ℕ) (x : ℤ) → is_arithmetic op.code ≡ true → Stands ops room lanes op.from op.second lane → value op.code op.to x (held lane i) ≡ value op.code op.to x (taken row op.second)
       second_is lane x a s = at (is_binary op.code) refl
         where
-          at : (b : Bool) → is_binary op.code ≡ b → value op.code op.to x (number lanes lane i) ≡ value op.code op.to x (taken row op.second)
-          at true b = ap (value op.code op.to x) (stands_number op.from op.second lane i row u s seconds (has_second (kind op.code) op b kept_operands))
+          at : (b : Bool) → is_binary op.code ≡ b → value op.code op.to x (held lane i) ≡ value op.code op.to x (taken row op.second)
+          at true b = ap (value op.code op.to x) (stands_number held behind op.from op.second lane i row u s seconds (has_second (kind op.code) op b kept_operands))
           at false b =
               let one : is_unary op.code ≡ true = ap (λ z. z || is_unary op.code) (sym b) ∙ takes_some op.code (or_first (is_arithmetic op.code) (is_comparison op.code) a) in
               let none : op.second ≡ None = no_second (kind op.code) op (or_first (is_unary op.code) (counts (kind op.code)) one) kept_operands in
-              one_taken op.code op.to x (number lanes lane i) a b ∙ ap (λ o. value op.code op.to x (taken row o)) (sym none)
+              one_taken op.code op.to x (held lane i) a b ∙ ap (λ o. value op.code op.to x (taken row o)) (sym none)
 
-      pub work_value : (w : Work) (d : ℕ) → WorkOf ops room lanes op w → line_value q (registers lanes i) (shown_work w op.to d) ≡ wanted
+      pub work_value : (w : Work) (d : ℕ) → WorkOf ops room lanes op w → line_value q (λ r. held r i) (shown_work w op.to d) ≡ wanted
       work_value (Arithmetic code first second) d h =
           let a : is_arithmetic op.code ≡ true = subst (λ k. is_arithmetic k ≡ true) h.0 h.1.0 in
-          ap (λ k. value k op.to (number lanes first i) (number lanes second i)) h.0
-          ∙ ap (λ x. value op.code op.to x (number lanes second i)) (first_is first (takes_some op.code (or_first (is_arithmetic op.code) (is_comparison op.code) a)) h.1.1.0)
+          ap (λ k. value k op.to (held first i) (held second i)) h.0
+          ∙ ap (λ x. value op.code op.to x (held second i)) (first_is first (takes_some op.code (or_first (is_arithmetic op.code) (is_comparison op.code) a)) h.1.1.0)
           ∙ second_is second (first_taken op.code q row op.first) a h.1.1.1
       work_value (Comparison code from first second) d h =
           let a : is_comparison op.code ≡ true = subst (λ k. is_comparison k ≡ true) h.0 h.1.0 in
-          ap (λ k. value k op.to (number lanes first i) (number lanes second i)) h.0
+          ap (λ k. value k op.to (held first i) (held second i)) h.0
           ∙ ap₂ (value op.code op.to) (first_is first (takes_some op.code (or_second (is_arithmetic op.code) (is_comparison op.code) a)) h.1.1.1.0)
-          (stands_number op.from op.second second i row u h.1.1.1.1 seconds (has_second (kind op.code) op (comparison_binary op.code a) kept_operands))
+          (stands_number held behind op.from op.second second i row u h.1.1.1.1 seconds (has_second (kind op.code) op (comparison_binary op.code a) kept_operands))
       work_value (Power first exponent) d h =
-          ap (λ k. value k op.to (number lanes first i) (pos exponent)) (sym h.0)
+          ap (λ k. value k op.to (held first i) (pos exponent)) (sym h.0)
           ∙ ap₂ (value op.code op.to) (first_is first (ap (λ k. is_binary k || is_unary k) h.0) h.1.1) (ap (taken row) (sym h.1.0))
       work_value (Conversion from first) d h =
           let none : op.second ≡ None = no_second (kind op.code) op (ap (λ k. binds_one (kind k) || counts (kind k)) h.0) kept_operands in
-          ap (λ k. value k op.to (number lanes first i) (pos 0)) (sym h.0)
+          ap (λ k. value k op.to (held first i) (pos 0)) (sym h.0)
           ∙ ap₂ (value op.code op.to) (first_is first (ap (λ k. is_binary k || is_unary k) h.0) h.1.1) (ap (taken row) (sym none))
       work_value Positions d h =
           let none : op.second ≡ None = no_second (kind op.code) op (ap (λ k. binds_one (kind k) || counts (kind k)) h) kept_operands in

@@ -84,11 +84,11 @@ module _ (ops : List Op) (p c room : ℕ) (t : IsStripOf ops p c room) (k : ℕ)
       (stands_typed ops room lanes op.from op.first along.source typed on of (subst (λ o. Rattle.arr_machine.specs.Tasks.Stands ops room lanes op.from o along.source) (sym a.source.1.0) a.source.1.1))
 
   -- the numbers of its source
-  pub source_is : (h : Columns) (start : ℕ → Option Slot) (lanes : List Buffer) (xs : List ℤ) (slots : ℕ → Option Slot) → Standing ops p c k h start lanes xs slots → (i : ℕ) → i < c
+  pub source_is : (h : Columns) (start : ℕ → Option Slot) (lanes : List Buffer) (xs : List ℤ) (slots : ℕ → Option Slot) → Standing ops p c k h start (number lanes) xs slots → (i : ℕ) → i < c
       → number lanes along.source i ≡ taken (ends (take k ops) h (p + i)) op.first
   source_is h start lanes xs slots s i u =
       ap (λ r. number lanes r i) a.source.1.1
-      ∙ (subst (λ o. Rattle.std.specs.List.AllByRecursion (λ v. number lanes (number_in (register_views ops) v) i ≡ ends (take k ops) h (p + i) v) (view_of o)) a.source.1.0 (row_first ops p c room t k op l e h start lanes xs slots s i u)).0
+      ∙ (subst (λ o. Rattle.std.specs.List.AllByRecursion (λ v. number lanes (number_in (register_views ops) v) i ≡ ends (take k ops) h (p + i) v) (view_of o)) a.source.1.0 (row_first ops p c room t k op l e h start (number lanes) xs slots s i u)).0
       ∙ ap (taken (ends (take k ops) h (p + i))) (sym a.source.1.0)
 
 module _ (ops : List Op) (p c room : ℕ) (t : IsStripOf ops p c room) (k : ℕ) (op : Op) (l : k < length ops) (e : op ≡ get_or ops k op) (along : Along) (lanes : List Buffer) (task : IsTask ops room lanes k op (Fold along)) (xs : List ℤ) (r : IsReady ops room lanes xs) where
@@ -139,11 +139,11 @@ module _ (ops : List Op) (p c room : ℕ) (t : IsStripOf ops p c room) (k : ℕ)
         → (slots : ℕ → Option Slot) → Advances ops p c k (k + 1) lanes xs slots lanes ys slots
     fold_stands folded slots h start s =
         record {
-          row = row_stays ops p c room t k op l e h start lanes xs slots s (ap (λ q. cond (folds q) None op.out) task.0);
-          kept = kept_step ops p c room t k op l e h start lanes xs slots s ys
+          row = row_stays ops p c room t k op l e h start (number lanes) xs slots s (ap (λ q. cond (folds q) None op.out) task.0);
+          kept = kept_step ops p c room t k op l e h start (number lanes) xs slots s ys
               (λ j f lj ej ne i u. kept_elsewhere ops p c room t k op l e op.to (along.axis.outer * along.axis.inner) xs ys small changes j f lj ej ne i u)
               (record { sums = λ red q u. sums_are q u; carries = λ scan. absurd (true≢false (sym scan ∙ ap scans task.0)) });
-          shown = shows_none ops p c room t k op l e h start lanes xs slots s no_slot;
+          shown = shows_none ops p c room t k op l e h start (number lanes) xs slots s no_slot;
         }
       where
         no_slot : op.slot ≡ None
@@ -166,6 +166,6 @@ module _ (ops : List Op) (p c room : ℕ) (t : IsStripOf ops p c room) (k : ℕ)
         sums_are : (q : ℕ) → q < count op → kept_at ys (kept_from ops k) q ≡ Rattle.arr_strips.specs.Sums.gathered_by op (ends (take k ops) h) (p + c) q
         sums_are q u =
             on (fold_start op.code op.to) (λ i. taken (ends (take k ops) h i) op.first)
-            (λ i v. (kept_here ops p c room t k op l e h start lanes xs slots s).sums (ap folds task.0) i (subst (λ n. i < n) size_is v))
+            (λ i v. (kept_here ops p c room t k op l e h start (number lanes) xs slots s).sums (ap folds task.0) i (subst (λ n. i < n) size_is v))
             (λ j v. ap (number lanes along.source) (let z : 0 + j ≡ j = omega arith in z) ∙ source_is ops p c room t k op l e along task.1 fold_code h start lanes xs slots s j v)
             q (subst (λ n. q < n) (sym size_is) u)

@@ -18,7 +18,7 @@ use Rattle.arr_store.specs.Slots.{slot_number}
 use Rattle.arr_strips.specs.Blocks.{block_positions}
 use Rattle.arr_strips.specs.Columns.{Columns, column, count, ends, filled, next, taken}
 use Rattle.arr_strips.specs.Registers.{number_in, register_views}
-use Rattle.arr_strips.specs.Strips.{joined, loaded}
+use Rattle.arr_strips.specs.Strips.{joined}
 use Rattle.arr_strips.specs.Sums.{AllGathered}
 use Rattle.arr_strips.proofs.Blocks.{Block, alones, next_same}
 use Rattle.arr_strips.proofs.Sorts.{sorts}
@@ -95,12 +95,12 @@ module _ (ops : List Op) (m : Memory) (b : Block ops) (fs : AllByRecursion (λ f
 
   -- the next strip begins where its lanes hold what was loaded
   pub strip_begins : (p c : ℕ) (h here : Columns) (start : ℕ → Option Slot) (lanes : List Buffer) (xs : List ℤ) (slots : ℕ → Option Slot) → p ≤ block_positions ops
-      → ((v : Strided) → loaded (register_views ops) v ≡ true → (i : ℕ) → i < c → number lanes (number_in (register_views ops) v) i ≡ here (p + i) v)
-      → Resting ops p h start xs slots → Standing ops p c 0 (joined p h here) start lanes xs slots
+      → ((v : Strided) (i : ℕ) → i < c → number lanes (number_in (register_views ops) v) i ≡ here (p + i) v)
+      → Resting ops p h start xs slots → Standing ops p c 0 (joined p h here) start (number lanes) xs slots
   strip_begins p c h here start lanes xs slots few row rest =
       let r : Resting ops p (joined p h here) start xs slots = rests_same p h (joined p h here) start xs slots few (λ q u. sym (ap (λ z. cond z (h q) (here q)) (lt-ltb q p u))) rest in
       record {
-        row = λ v on i u. row v on i u ∙ sym (ap (λ z. cond z (h (p + i)) (here (p + i)) v) (le-ltb (p + i) p (omega arith)));
+        row = λ v on i u. row v i u ∙ sym (ap (λ z. cond z (h (p + i)) (here (p + i)) v) (le-ltb (p + i) p (omega arith)));
         kept = λ j op l e. subst (λ d. OpKept d (kept_from ops j) op (ends (take j ops) (joined p h here)) xs) (sym (ap (λ z. cond z (p + c) p) (le-ltb j 0 (omega arith)))) (r.kept j op l e);
         shown = record {
           same = r.shown.same;
@@ -113,7 +113,7 @@ module _ (ops : List Op) (m : Memory) (b : Block ops) (fs : AllByRecursion (λ f
       none q false = refl
 
 -- a strip ends
-pub strip_ends : (ops : List Op) (p c : ℕ) (h : Columns) (start : ℕ → Option Slot) (lanes : List Buffer) (xs : List ℤ) (slots : ℕ → Option Slot) → Standing ops p c (length ops) h start lanes xs slots → Resting ops (p + c) h start xs slots
+pub strip_ends : (ops : List Op) (p c : ℕ) (h : Columns) (start : ℕ → Option Slot) (lanes : List Buffer) (xs : List ℤ) (slots : ℕ → Option Slot) → Standing ops p c (length ops) h start (number lanes) xs slots → Resting ops (p + c) h start xs slots
 strip_ends ops p c h start lanes xs slots s =
     record {
       kept = λ j op l e. subst (λ d. OpKept d (kept_from ops j) op (ends (take j ops) h) xs) (ap (λ z. cond z (p + c) p) (lt-ltb j (length ops) l)) (s.kept j op l e);

@@ -96,11 +96,11 @@ module _ (ops : List Op) (p c room : ℕ) (t : IsStripOf ops p c room) (k : ℕ)
         → (slots : ℕ → Option Slot) → Advances ops p c k (k + 1) lanes xs slots new ys slots
     scan_stands scanned slots h start s =
         record {
-          row = row_filled ops p c room t k op l e h start lanes xs slots s out new fill (output_on ops p c room t k op l e out out_is) number_is;
-          kept = kept_step ops p c room t k op l e h start lanes xs slots s ys
+          row = row_filled ops p c room t k op l e h start (number lanes) xs slots s out (number new) fill (output_on ops p c room t k op l e out out_is) number_is;
+          kept = kept_step ops p c room t k op l e h start (number lanes) xs slots s ys
               (λ j f lj ej ne i u. kept_elsewhere ops p c room t k op l e op.to along.axis.inner xs ys small changes j f lj ej ne i u)
               (record { sums = λ red. absurd (true≢false (sym red ∙ ap folds task.0)); carries = λ scan q u v. results.1 q u v ∙ sym (at q) });
-          shown = shows_none ops p c room t k op l e h start lanes xs slots s no_slot;
+          shown = shows_none ops p c room t k op l e h start (number lanes) xs slots s no_slot;
         }
       where
         no_slot : op.slot ≡ None
@@ -125,7 +125,7 @@ module _ (ops : List Op) (p c room : ℕ) (t : IsStripOf ops p c room) (k : ℕ)
             × ((q : ℕ) → q < p + c → p + c ≤ q + inner_of op → kept_at ys (kept_from ops k) (q % inner_of op) ≡ scan_at (value op.code op.to) (fold_start op.code op.to) (axis_length op) (inner_of op) (λ i. taken (ends (take k ops) h i) op.first) q)
         results =
             on (λ i. taken (ends (take k ops) h i) op.first)
-            (λ q u v. (kept_here ops p c room t k op l e h start lanes xs slots s).carries (ap scans task.0) q u v ∙ at q)
+            (λ q u v. (kept_here ops p c room t k op l e h start (number lanes) xs slots s).carries (ap scans task.0) q u v ∙ at q)
             (λ j v. ap (number lanes along.source) (let z : 0 + j ≡ j = omega arith in z) ∙ source_is ops p c room t k op l e along its_along scan_code h start lanes xs slots s j v)
 
         number_is : (q i : ℕ) → i < c → number new q i ≡ cond (number_in (register_views ops) out == q) (column op (ends (take k ops) h) (p + i)) (number lanes q i)

@@ -144,8 +144,8 @@ module _ (ops : List Op) (p c room : ℕ) (t : IsStripOf ops p c room) (k : ℕ)
     unfolding here
     show_stands xs h start s =
         record {
-          row = row_stays ops p c room t k op l e h start lanes xs slots s (ap (λ z. cond z None op.out) (ap folds task.0) ∙ showing.1.no_out);
-          kept = kept_step ops p c room t k op l e h start lanes xs slots s xs (λ j f lj ej ne i u. refl) (quiet ops p c room t k op l e h start lanes xs slots s (ap folds task.0) (ap scans task.0) xs);
+          row = row_stays ops p c room t k op l e h start (number lanes) xs slots s (ap (λ z. cond z None op.out) (ap folds task.0) ∙ showing.1.no_out);
+          kept = kept_step ops p c room t k op l e h start (number lanes) xs slots s xs (λ j f lj ej ne i u. refl) (quiet ops p c room t k op l e h start (number lanes) xs slots s (ap folds task.0) (ap scans task.0) xs);
           shown = subst (λ f. Showing ops (seen (length ops) p c (k + 1)) h start f) (sym is) (record {
             same = λ a. same_frame a ∙ s.shown.same a;
             numbers = λ a q. at a q;
@@ -163,7 +163,7 @@ module _ (ops : List Op) (p c room : ℕ) (t : IsStripOf ops p c room) (k : ℕ)
         column q low high =
             let u : q - p < c = omega arith in
             get_or-take c (cell_of lane).numbers (q - p) (pos 0) u ∙ sym (lane_cell lanes r lane there (q - p))
-            ∙ shows_number ops room lanes op.from showing.0 op.first r (q - p) (ends (take k ops) h (p + (q - p))) showing.1.first_is task.1.1 (row_first ops p c room t k op l e h start lanes xs slots s (q - p) u)
+            ∙ shows_number ops room lanes op.from showing.0 op.first r (q - p) (ends (take k ops) h (p + (q - p))) showing.1.first_is task.1.1 (row_first ops p c room t k op l e h start (number lanes) xs slots s (q - p) u)
             ∙ ap (λ i. taken (ends (take k ops) h i) op.first) (let z : p + (q - p) ≡ q = omega arith in z)
 
         -- elsewhere the position has seen as much as before
@@ -202,9 +202,9 @@ pub nothing_stands : (ops : List Op) (p c room : ℕ) (t : IsStripOf ops p c roo
     → (lanes : List Buffer) (xs : List ℤ) (slots : ℕ → Option Slot) → Advances ops p c k (k + 1) lanes xs slots lanes xs slots
 nothing_stands ops p c room t k op l e free lanes xs slots h start s =
     record {
-      row = row_stays ops p c room t k op l e h start lanes xs slots s (ap (λ z. cond z None op.out) (ap folds free) ∙ no_out);
-      kept = kept_step ops p c room t k op l e h start lanes xs slots s xs (λ j g lj ej ne i u. refl) (quiet ops p c room t k op l e h start lanes xs slots s (ap folds free) (ap scans free) xs);
-      shown = shows_none ops p c room t k op l e h start lanes xs slots s no_slot;
+      row = row_stays ops p c room t k op l e h start (number lanes) xs slots s (ap (λ z. cond z None op.out) (ap folds free) ∙ no_out);
+      kept = kept_step ops p c room t k op l e h start (number lanes) xs slots s xs (λ j g lj ej ne i u. refl) (quiet ops p c room t k op l e h start (number lanes) xs slots s (ap folds free) (ap scans free) xs);
+      shown = shows_none ops p c room t k op l e h start (number lanes) xs slots s no_slot;
     }
   where
     no_out : op.out ≡ None

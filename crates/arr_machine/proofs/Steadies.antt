@@ -7,11 +7,12 @@ use Rattle.arr_ops.specs.declared.op.Operand.TheVariants.{Array, Number}
 use Rattle.arr_store.specs.declared.buffer.Buffer.{Buffer}
 use Rattle.arr_strips.specs.Registers.{number_in, register_views}
 use Rattle.arr_lanes.specs.declared.line.Work.{Work}
+use Rattle.arr_lanes.specs.declared.line.Line.{Line}
 use Rattle.arr_lanes.specs.declared.line.Work.TheVariants.{Arithmetic, Comparison, Power, Conversion, Positions}
 use Rattle.arr_lanes.specs.Lanes.{lane_number}
 use Rattle.arr_machine.specs.declared.task.Task.{Task}
-use Rattle.arr_machine.specs.declared.task.Task.TheVariants.{Line, Scan, Fold, Show, Nothing}
-use Rattle.arr_machine.specs.Tasks.{AreTasks, IsTask, Stands, Steady, TypedLanes, WorkOf}
+use Rattle.arr_machine.specs.declared.task.Task.TheVariants.{Line as line_task, Link, Scan, Fold, Show, Nothing}
+use Rattle.arr_machine.specs.Tasks.{AreTasks, IsLine, IsTask, Stands, Steady, TypedLanes, WorkOf}
 
 pub steady_none : (ops : List Op) (room : ℕ) (lanes : List Buffer) → Steady ops room lanes lanes
 steady_none ops room lanes = record { long = refl; types = λ t r h. h; constants = λ r l. refl }
@@ -35,8 +36,12 @@ module _ (ops : List Op) (room : ℕ) (old new : List Buffer) (s : Steady ops ro
   work_steady op (Conversion from first) h = (h.0, (h.1.0, stands_steady op.from op.first first h.1.1))
   work_steady op Positions h = h
 
+  line_steady : (op : Op) (line : Line) → IsLine ops room old op line → IsLine ops room new op line
+  line_steady op line h = (h.0, (work_steady op line.work h.1.0, h.1.1))
+
   pub task_steady : (k : ℕ) (op : Op) (task : Task) → IsTask ops room old k op task → IsTask ops room new k op task
-  task_steady k op (Line line) h = (h.0, (work_steady op line.work h.1.0, h.1.1))
+  task_steady k op (line_task line) h = line_steady op line h
+  task_steady k op (Link line) h = (line_steady op line h.0, h.1)
   task_steady k op (Scan along dest) h = h
   task_steady k op (Fold along) h = h
   task_steady k op (Show slot lane) h = (h.0, (h.1.0, stands_steady op.from op.first lane h.1.1))

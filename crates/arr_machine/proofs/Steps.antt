@@ -15,7 +15,6 @@ use Rattle.arr_ops.specs.Ops.{inputs, outputs, view_of, views}
 use Rattle.arr_ops.specs.Traffic.{kept_for}
 use Rattle.arr_ops.proofs.Pairs.{All_weaker}
 use Rattle.arr_ops.proofs.Spots.{all_left, all_right, all_two}
-use Rattle.arr_store.specs.declared.buffer.Buffer.{Buffer}
 use Rattle.arr_store.specs.Slots.{slot_number}
 use Rattle.arr_strips.specs.Blocks.{block_positions, block_shape}
 use Rattle.arr_strips.specs.Columns.{Columns, assigned, column, ends, fills, next, taken}
@@ -26,12 +25,13 @@ use Rattle.arr_strips.proofs.Machine.{has_register}
 use Rattle.arr_strips.proofs.Registers.{one_number}
 use Rattle.arr_strips.proofs.Sames.{or_true}
 use Rattle.arr_strips.proofs.Sorts.{AtShape, one_shape}
-use Rattle.arr_lanes.specs.Lanes.{number}
 use Rattle.arr_sums.specs.Kept.{ChangesWithin, kept_at}
 use Rattle.arr_machine.specs.Kept.{AllKept, OpKept, TypedKept, kept_from}
+use Rattle.arr_machine.specs.Needed.{needed}
 use Rattle.arr_machine.specs.Shown.{Showing, seen, show_number, shown_number}
 use Rattle.arr_machine.specs.Standing.{IsStripOf, Standing}
 use Rattle.arr_machine.proofs.Blocks.{Lines, Rooms, all_get, carry_room, done_other, ends_more, kept_apart, lines_of_fold, op_kept_same, same_item, sums_room}
+use Rattle.arr_machine.proofs.Needs.{needed_before, needs_inputs}
 
 show_end : (xs : List Op) (op : Op) (h : Columns) (q s : ℕ) (c : ℤ) → show_number (xs ++ op ∷ []) h q s c ≡ shown_number op.slot (taken (ends xs h q) op.first) s (show_number xs h q s c)
 show_end [] op h q s c = refl
@@ -130,16 +130,16 @@ module _ (ops : List Op) (p c room : ℕ) (t : IsStripOf ops p c room) where
               | false ↦ λ q. let far : size ≤ i = ltb-false i size q in ap (in_type op.to) (w.behind (kept_from ops k + i) (omega arith)) ∙ typed k op l e i u
             ] refl
 
-    module _ (h : Columns) (start : ℕ → Option Slot) (lanes : List Buffer) (xs : List ℤ) (slots : ℕ → Option Slot) (s : Standing ops p c k h start lanes xs slots) where
+    module _ (h : Columns) (start : ℕ → Option Slot) (held : ℕ → ℕ → ℤ) (xs : List ℤ) (slots : ℕ → Option Slot) (s : Standing ops p c k h start held xs slots) where
       -- the lanes of its operands hold their columns
-      pub row_inputs : (i : ℕ) → i < c → AllByRecursion (λ v. number lanes (number_in (register_views ops) v) i ≡ ends (take k ops) h (p + i) v) (inputs op)
-      row_inputs i u = All_weaker (λ v. loaded (register_views ops) v ≡ true) (λ v. number lanes (number_in (register_views ops) v) i ≡ ends (take k ops) h (p + i) v) (λ v on. s.row v on i u) (inputs op) inputs_on
+      pub row_inputs : (i : ℕ) → i < c → AllByRecursion (λ v. held (number_in (register_views ops) v) i ≡ ends (take k ops) h (p + i) v) (inputs op)
+      row_inputs i u = All_weaker (λ v. needed ops k v ≡ true) (λ v. held (number_in (register_views ops) v) i ≡ ends (take k ops) h (p + i) v) (λ v on. s.row v on i u) (inputs op) (needs_inputs ops k op l e)
 
-      pub row_first : (i : ℕ) → i < c → AllByRecursion (λ v. number lanes (number_in (register_views ops) v) i ≡ ends (take k ops) h (p + i) v) (view_of op.first)
-      row_first i u = all_left (λ v. number lanes (number_in (register_views ops) v) i ≡ ends (take k ops) h (p + i) v) (view_of op.first) (view_of op.second) (row_inputs i u)
+      pub row_first : (i : ℕ) → i < c → AllByRecursion (λ v. held (number_in (register_views ops) v) i ≡ ends (take k ops) h (p + i) v) (view_of op.first)
+      row_first i u = all_left (λ v. held (number_in (register_views ops) v) i ≡ ends (take k ops) h (p + i) v) (view_of op.first) (view_of op.second) (row_inputs i u)
 
-      pub row_second : (i : ℕ) → i < c → AllByRecursion (λ v. number lanes (number_in (register_views ops) v) i ≡ ends (take k ops) h (p + i) v) (view_of op.second)
-      row_second i u = all_right (λ v. number lanes (number_in (register_views ops) v) i ≡ ends (take k ops) h (p + i) v) (view_of op.first) (view_of op.second) (row_inputs i u)
+      pub row_second : (i : ℕ) → i < c → AllByRecursion (λ v. held (number_in (register_views ops) v) i ≡ ends (take k ops) h (p + i) v) (view_of op.second)
+      row_second i u = all_right (λ v. held (number_in (register_views ops) v) i ≡ ends (take k ops) h (p + i) v) (view_of op.first) (view_of op.second) (row_inputs i u)
 
       pub kept_here : OpKept p (kept_from ops k) op (ends (take k ops) h) xs
       kept_here = subst (λ d. OpKept d (kept_from ops k) op (ends (take k ops) h) xs) (ap (λ z. cond z (p + c) p) (le-ltb k k (omega arith))) (s.kept k op l e)
@@ -167,16 +167,16 @@ module _ (ops : List Op) (p c room : ℕ) (t : IsStripOf ops p c room) where
       quiet a d ys = record { sums = λ z. absurd (true≢false (sym z ∙ a)); carries = λ z. absurd (true≢false (sym z ∙ d)) }
 
       -- what computes nothing leaves the lanes
-      pub row_stays : fills op ≡ None → (v : Strided) → loaded (register_views ops) v ≡ true → (i : ℕ) → i < c → number lanes (number_in (register_views ops) v) i ≡ ends (take (k + 1) ops) h (p + i) v
-      row_stays none v on i u = s.row v on i u ∙ sym (next_row i v ∙ ap (λ f. assigned f (column op (ends (take k ops) h) (p + i)) (ends (take k ops) h (p + i)) v) none)
+      pub row_stays : fills op ≡ None → (v : Strided) → needed ops (k + 1) v ≡ true → (i : ℕ) → i < c → held (number_in (register_views ops) v) i ≡ ends (take (k + 1) ops) h (p + i) v
+      row_stays none v on i u = s.row v (needed_before ops k v on) i u ∙ sym (next_row i v ∙ ap (λ f. assigned f (column op (ends (take k ops) h) (p + i)) (ends (take k ops) h (p + i)) v) none)
 
       -- what fills a view puts its column into a lane
-      pub row_filled : (o : Strided) (now : List Buffer) → fills op ≡ Some o → loaded (register_views ops) o ≡ true
-          → ((r i : ℕ) → i < c → number now r i ≡ cond (number_in (register_views ops) o == r) (column op (ends (take k ops) h) (p + i)) (number lanes r i))
-          → (v : Strided) → loaded (register_views ops) v ≡ true → (i : ℕ) → i < c → number now (number_in (register_views ops) v) i ≡ ends (take (k + 1) ops) h (p + i) v
+      pub row_filled : (o : Strided) (now : ℕ → ℕ → ℤ) → fills op ≡ Some o → loaded (register_views ops) o ≡ true
+          → ((r i : ℕ) → i < c → now r i ≡ cond (number_in (register_views ops) o == r) (column op (ends (take k ops) h) (p + i)) (held r i))
+          → (v : Strided) → needed ops (k + 1) v ≡ true → (i : ℕ) → i < c → now (number_in (register_views ops) v) i ≡ ends (take (k + 1) ops) h (p + i) v
       row_filled o now fill there is v on i u =
           is (number_in (register_views ops) v) i u
-          ∙ ap₂ (λ z y. cond z (column op (ends (take k ops) h) (p + i)) y) (one_number (register_views ops) o v there) (s.row v on i u)
+          ∙ ap₂ (λ z y. cond z (column op (ends (take k ops) h) (p + i)) y) (one_number (register_views ops) o v there) (s.row v (needed_before ops k v on) i u)
           ∙ sym (next_row i v ∙ ap (λ f. assigned f (column op (ends (take k ops) h) (p + i)) (ends (take k ops) h (p + i)) v) fill)
 
       -- what shows nothing leaves the slots

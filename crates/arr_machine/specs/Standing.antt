@@ -9,8 +9,8 @@ use Rattle.arr_store.specs.declared.buffer.Buffer.{Buffer}
 use Rattle.arr_strips.specs.Blocks.{block_positions, is_block}
 use Rattle.arr_strips.specs.Columns.{Columns, ends}
 use Rattle.arr_strips.specs.Registers.{number_in, register_views}
-use Rattle.arr_strips.specs.Strips.{loaded}
 use Rattle.arr_lanes.specs.Lanes.{number}
+use Rattle.arr_machine.specs.Needed.{needed}
 use Rattle.arr_machine.specs.Kept.{AllKept, OpKept, TypedKept, kept_from}
 use Rattle.arr_machine.specs.Shown.{Showing, seen}
 use Rattle.arr_machine.specs.Tasks.{TypedLanes}
@@ -23,17 +23,17 @@ pub record IsStripOf (ops : List Op) (p c room : ℕ) : Type 0 where
   pub within : c ≤ room
   pub inside : p + c ≤ block_positions ops
 
--- before operation k: the lanes of views hold the columns there, the first k operations have done the strip, and slots held
--- `start` when the walk began
-pub record Standing (ops : List Op) (p c k : ℕ) (h : Columns) (start : ℕ → Option Slot) (lanes : List Buffer) (numbers : List ℤ) (slots : ℕ → Option Slot) : Type 0 where
-  pub row : (v : Strided) → loaded (register_views ops) v ≡ true → (i : ℕ) → i < c → number lanes (number_in (register_views ops) v) i ≡ ends (take k ops) h (p + i) v
+-- before operation k: the registers of views that are still needed hold the columns there, the first k operations have done the
+-- strip, and slots held `start` when the walk began
+pub record Standing (ops : List Op) (p c k : ℕ) (h : Columns) (start : ℕ → Option Slot) (held : ℕ → ℕ → ℤ) (numbers : List ℤ) (slots : ℕ → Option Slot) : Type 0 where
+  pub row : (v : Strided) → needed ops k v ≡ true → (i : ℕ) → i < c → held (number_in (register_views ops) v) i ≡ ends (take k ops) h (p + i) v
   pub kept : AllKept ops k (p + c) p h numbers
   pub shown : Showing ops (seen (length ops) p c k) h start slots
 
 -- wherever a walk stood before operation j, it stands before operation k
 abbrev pub Advances : List Op → ℕ → ℕ → ℕ → ℕ → List Buffer → List ℤ → (ℕ → Option Slot) → List Buffer → List ℤ → (ℕ → Option Slot) → Type 0
 Advances ops p c j k lanes numbers slots lanes' numbers' slots' =
-    (h : Columns) (start : ℕ → Option Slot) → Standing ops p c j h start lanes numbers slots → Standing ops p c k h start lanes' numbers' slots'
+    (h : Columns) (start : ℕ → Option Slot) → Standing ops p c j h start (number lanes) numbers slots → Standing ops p c k h start (number lanes') numbers' slots'
 
 -- lanes and numbers have room and types for the operations of a block
 pub record IsReady (ops : List Op) (room : ℕ) (lanes : List Buffer) (numbers : List ℤ) : Type 0 where

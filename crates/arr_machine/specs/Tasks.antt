@@ -1,5 +1,5 @@
 -- What a task does of an operation, and where its operands stand in lanes.
-use Rattle.std.specs.Prelude.{ℕ, ℤ, pos, ◌≡◌, ◌<◌, ◌≤◌, true, List, IsTrue, get_or, length, Option, Some, None, slice_get}
+use Rattle.std.specs.Prelude.{ℕ, ℤ, pos, ◌≡◌, ◌+◌, ◌<◌, ◌≤◌, true, false, List, IsTrue, get_or, length, Option, Some, None, slice_get}
 use Rattle.arr_num.specs.declared.elem.Elem.{Elem}
 use Rattle.arr_num.specs.declared.code.Code.TheVariants.{Power as power_code, Identity, Range}
 use Rattle.arr_num.specs.Kinds.{Ending, Printing, Reduction, Scan as scan_kind, is_element_wise, kind}
@@ -13,13 +13,15 @@ use Rattle.arr_ops.specs.Traffic.{axis_length}
 use Rattle.arr_store.specs.declared.buffer.Buffer.{Buffer}
 use Rattle.arr_strips.specs.Registers.{number_in, register_views}
 use Rattle.arr_strips.specs.Strips.{loaded}
+use Rattle.arr_lanes.specs.declared.line.Line.{Line}
 use Rattle.arr_lanes.specs.declared.line.Work.{Work}
 use Rattle.arr_lanes.specs.declared.line.Work.TheVariants.{Arithmetic, Comparison, Power, Conversion, Positions}
 use Rattle.arr_lanes.specs.Lanes.{IsLane, number}
 use Rattle.arr_machine.specs.Kept.{inner_of, kept_from, outer_of}
+use Rattle.arr_machine.specs.Needed.{needed}
 use Rattle.arr_machine.specs.declared.task.Along.{Along}
 use Rattle.arr_machine.specs.declared.task.Task.{Task}
-use Rattle.arr_machine.specs.declared.task.Task.TheVariants.{Line, Scan, Fold, Show, Nothing}
+use Rattle.arr_machine.specs.declared.task.Task.TheVariants.{Line as line_task, Link, Scan, Fold, Show, Nothing}
 
 -- the lane of each view is its register, of the type of its base
 abbrev pub TypedLanes : List Op → ℕ → List Buffer → Type 0
@@ -64,9 +66,18 @@ pub record IsAlongAt (views : List Strided) (at : ℕ) (op : Op) (along : Along)
 abbrev pub IsAlong : List Op → ℕ → Op → Along → Type 0
 IsAlong ops k op along = IsAlongAt (register_views ops) (kept_from ops k) op along
 
+-- a line is that of an element-wise operation
+abbrev pub IsLine : List Op → ℕ → List Buffer → Op → Line → Type 0
+IsLine ops room lanes op line = (is_element_wise op.code ≡ true) × (WorkOf ops room lanes op line.work × ((line.to ≡ op.to) × IsOutput ops op line.dest))
+
+-- what operation k computes no operation behind the next one reads, and no walk stores
+abbrev pub PassesOn : List Op → ℕ → Op → Type 0
+PassesOn ops k op = (o : Strided) → op.out ≡ Some o → needed ops (k + 2) o ≡ false
+
 -- a task is what operation k does to lanes, to the numbers that are kept, and to slots
 abbrev pub IsTask : List Op → ℕ → List Buffer → ℕ → Op → Task → Type 0
-IsTask ops room lanes k op (Line line) = (is_element_wise op.code ≡ true) × (WorkOf ops room lanes op line.work × ((line.to ≡ op.to) × IsOutput ops op line.dest))
+IsTask ops room lanes k op (line_task line) = IsLine ops room lanes op line
+IsTask ops room lanes k op (Link line) = IsLine ops room lanes op line × PassesOn ops k op
 IsTask ops room lanes k op (Scan along dest) = (kind op.code ≡ scan_kind) × (IsAlong ops k op along × IsOutput ops op dest)
 IsTask ops room lanes k op (Fold along) = (kind op.code ≡ Reduction) × IsAlong ops k op along
 IsTask ops room lanes k op (Show slot lane) = (kind op.code ≡ Printing) × ((op.slot ≡ Some slot) × Stands ops room lanes op.from op.first lane)

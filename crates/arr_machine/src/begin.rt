@@ -60,7 +60,7 @@ fn start_task(
 {
     match task {
         Task::Fold(along) => start_fold(along, numbers),
-        Task::Line(_line) => {}
+        Task::Line(_line) | Task::Link(_line) => {}
         Task::Scan(_along, _dest) => {}
         Task::Show(_slot, _lane) => {}
         Task::Nothing => {}

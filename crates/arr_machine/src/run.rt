@@ -1,16 +1,18 @@
 //! The operations of a block, one after another, at one strip.
-ghost use Rattle.std.specs.Prelude.{ℕ, ℤ, ◌≡◌, ◌+◌, ◌<◌, List, Option, get_or, length};
+ghost use Rattle.std.specs.Prelude.{ℕ, ℤ, ◌≡◌, ◌+◌, ◌<◌, ◌≤◌, List, Option, get_or, length};
 ghost use Rattle.arr_ops.specs.Memory.{Slot};
 ghost use Rattle.arr_ops.specs.declared.op.Op.{Op};
 ghost use Rattle.arr_store.specs.Slots.{slots_of};
 ghost use Rattle.arr_lanes.specs.Spares.{HasRoom};
+ghost use Rattle.arr_machine.specs.Chains.{IsSumAt, additions};
 ghost use Rattle.arr_machine.specs.Shown.{SlotsMatch};
 ghost use Rattle.arr_machine.specs.Standing.{Advances, IsReady, IsStripOf};
-ghost use Rattle.arr_machine.specs.Tasks.{AreTasks, IsTask, Steady};
+ghost use Rattle.arr_machine.specs.Tasks.{AreTasks, IsLine, IsTask, Steady};
 
+use crate::chain::{additions, sum_at};
 use crate::folds::{fold_lane, scan_lane};
 use crate::task::Task;
-use arr_lanes::{Line, Spares, Strip, run_line};
+use arr_lanes::{Line, Spares, Strip, Sum, run_line, run_sum};
 use arr_ops::Op;
 use arr_store::{Buffer, Run, Slots};
 
@@ -27,7 +29,7 @@ fn compute_lane(
     requires strip { IsStripOf _ops.now strip.position strip.count strip.room }
     requires there { _index < length _ops.now }
     requires task { (op : Op) → op ≡ get_or _ops.now _index op
-        → IsTask _ops.now strip.room lanes.old _index op (Task.Line line) }
+        → IsLine _ops.now strip.room lanes.old op line }
     requires ready { IsReady _ops.now strip.room lanes.old _numbers.now }
     requires spares { HasRoom strip.room spares.old }
     ensures stands { (slots : ℕ → Option Slot)
@@ -38,6 +40,32 @@ fn compute_lane(
     ensures spares { HasRoom strip.room spares.new }
 {
     run_line(line, lanes, spares, strip);
+}
+
+/// Additions that follow one another compute the lane of the last one.
+fn compute_sum(
+    _ops: &[Op],
+    _index: usize,
+    sum: Sum,
+    _tasks: &[Task],
+    lanes: &mut [Buffer],
+    spares: &mut Spares,
+    _numbers: &[i128],
+    strip: Strip,
+)
+    requires strip { IsStripOf _ops.now strip.position strip.count strip.room }
+    requires tasks { AreTasks _ops.now strip.room lanes.old _tasks.now }
+    requires sum { IsSumAt _tasks.now _index sum }
+    requires ready { IsReady _ops.now strip.room lanes.old _numbers.now }
+    requires spares { HasRoom strip.room spares.old }
+    ensures stands { (slots : ℕ → Option Slot)
+        → Advances _ops.now strip.position strip.count _index (_index + additions sum)
+        lanes.old _numbers.now slots lanes.new _numbers.now slots }
+    ensures ready { IsReady _ops.now strip.room lanes.new _numbers.now }
+    ensures steady { Steady _ops.now strip.room lanes.old lanes.new }
+    ensures spares { HasRoom strip.room spares.new }
+{
+    run_sum(sum, lanes, spares, strip);
 }
 
 /// A SYNC puts the lane of its input into its slot.
@@ -94,7 +122,9 @@ fn run_task(
     ensures slots { SlotsMatch ops.now (slots_of slots.new) }
 {
     match task {
-        Task::Line(line) => compute_lane(ops, index, line, lanes, spares, numbers, strip),
+        Task::Line(line) | Task::Link(line) => {
+            compute_lane(ops, index, line, lanes, spares, numbers, strip)
+        }
         Task::Scan(along, dest) => {
             scan_lane(ops, index, along, dest, lanes, spares, numbers, strip)
         }
@@ -102,6 +132,42 @@ fn run_task(
         Task::Show(slot, lane) => show_lane(ops, index, slot, lane, lanes, slots, numbers, strip),
         Task::Nothing => {}
     }
+}
+
+/// The operations of a block from an index on run at a strip: those that add up several lanes at once, or the one with the index alone. The
+/// result is the index of the next one.
+fn run_next(
+    ops: &[Op],
+    index: usize,
+    tasks: &[Task],
+    lanes: &mut [Buffer],
+    spares: &mut Spares,
+    numbers: &mut [i128],
+    slots: &mut Slots,
+    strip: Strip,
+) -> usize
+    requires strip { IsStripOf ops.now strip.position strip.count strip.room }
+    requires there { index < length ops.now }
+    requires tasks { AreTasks ops.now strip.room lanes.old tasks.now }
+    requires ready { IsReady ops.now strip.room lanes.old numbers.old }
+    requires spares { HasRoom strip.room spares.old }
+    requires slots { SlotsMatch ops.now (slots_of slots.old) }
+    ensures behind { index < result }
+    ensures inside { result ≤ length ops.now }
+    ensures stands { Advances ops.now strip.position strip.count index result lanes.old numbers.old
+        (slots_of slots.old) lanes.new numbers.new (slots_of slots.new) }
+    ensures ready { IsReady ops.now strip.room lanes.new numbers.new }
+    ensures steady { Steady ops.now strip.room lanes.old lanes.new }
+    ensures spares { HasRoom strip.room spares.new }
+    ensures slots { SlotsMatch ops.now (slots_of slots.new) }
+{
+    let Some(sum) = sum_at(tasks, index) else {
+        let task = tasks[index];
+        run_task(ops, index, task, lanes, spares, numbers, slots, strip);
+        return index + 1;
+    };
+    compute_sum(ops, index, sum, tasks, lanes, spares, numbers, strip);
+    index + additions(sum)
 }
 
 /// The operations of a block run at a strip of its positions, one after another: each computes its lane, folds into the numbers that the
@@ -127,7 +193,8 @@ pub fn run_tasks(
     ensures spares { HasRoom strip.room spares.new }
     ensures slots { SlotsMatch ops.now (slots_of slots.new) }
 {
-    for (index, task) in tasks.iter().enumerate() {
-        run_task(ops, index, *task, lanes, spares, numbers, slots, strip);
+    let mut index = 0;
+    while index < tasks.len() {
+        index = run_next(ops, index, tasks, lanes, spares, numbers, slots, strip);
     }
 }

@@ -17,6 +17,8 @@ pub struct Along {
 pub enum Task {
     /// An element-wise operation (docs/LANGUAGE.md, "Opcodes").
     Line(Line),
+    /// An element-wise operation whose result the next operation may read, but none behind that, and that the walk does not store.
+    Link(Line),
     /// A scan, whose results go into a lane.
     Scan(Along, u32),
     /// A reduction.

@@ -3,6 +3,7 @@ use Rattle.arr_num.specs.Kinds.{folds, is_fold, kind}
 use Rattle.arr_machine.specs.Tasks.{IsTask}
 use Rattle.arr_machine.proofs.Begins.{one_strip, plain_kind, reduction_fold, starts_inside, starts_more, starts_other, starts_typed}
 use Rattle.arr_machine.proofs.Blocks.{item_at}
+use Rattle.arr_machine.proofs.Tasks.{line_of}
 use Rattle.arr_machine.proofs.begin.start_task.Goals as goal
 
 pub start_fold-requires-clause-code : goal.start_fold-requires-clause-code
@@ -34,7 +35,7 @@ returns-in-Fold-clause-starts c =
 pub returns-in-Line-clause-starts : goal.returns-in-Line-clause-starts
 returns-in-Line-clause-starts c =
     let op = item_at c.args._ops.now c.args._index c.requires.there in
-    let is = subst (IsTask c.args._ops.now c.args._room c.args._lanes.now c.args._index op.0) c.in-Line.is (c.requires.task op.0 op.1) in
+    let is = line_of c.args._ops.now c.args._room c.args._lanes.now c.args._index op.0 c.args.task c.in-Line._line c.in-Line.is (c.requires.task op.0 op.1) in
     starts_other c.args._ops.now (one_strip c.args._ops.now c.requires.block c.requires.types) c.args._index op.0 c.requires.there op.1 c.args.numbers.now (plain_kind (kind op.0.code) is.0) c.requires.starts
 
 pub returns-in-Scan-clause-starts : goal.returns-in-Scan-clause-starts

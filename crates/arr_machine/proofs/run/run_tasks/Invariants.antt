@@ -1,3 +1,4 @@
+use Rattle.std.proofs.Common.{◌≤◌, ◌-◌, length}
 use Rattle.arr_store.specs.Slots.{slots_of}
 use Rattle.arr_lanes.specs.Spares.{HasRoom}
 use Rattle.arr_machine.specs.Shown.{SlotsMatch}
@@ -8,9 +9,13 @@ use Rattle.arr_machine.proofs.run.run_tasks.Given as goal
 abbrev pub invariant-loop-index : goal.invariant-loop-index
 invariant-loop-index l =
     record {
+      inside : l.index ≤ length l.ops;
       stands : Advances l.ops l.strip.position l.strip.count 0 l.index l.fn.lanes l.fn.numbers (slots_of l.fn.slots) l.lanes l.numbers (slots_of l.slots);
       ready : IsReady l.ops l.strip.room l.lanes l.numbers;
       steady : Steady l.ops l.strip.room l.fn.lanes l.lanes;
       spares : HasRoom l.strip.room l.spares;
       slots : SlotsMatch l.ops (slots_of l.slots);
     }
+
+abbrev pub decreases-loop-index : goal.decreases-loop-index
+decreases-loop-index l = length l.tasks - l.index

@@ -22,5 +22,6 @@ unreachable-requires c =
     folds_in c.self.inside.ops.items c.args.self.now.ops c.self.inside.machine c.args.place c.index.result.now view (inv.7 (inv.5 ∙ ap (list_any serial) view ∙ c.requires.parallel)) c.requires.there c.index.ensures
     c.requires.reduction in
     ⊎_elim (λ l. subst (Folds (kept_from c.args.self.now.ops c.args.place)) l.1 here)
+    (⊎_elim (λ l. subst (Folds (kept_from c.args.self.now.ops c.args.place)) l.1 here)
     (⊎_elim (λ s. subst (Folds (kept_from c.args.self.now.ops c.args.place)) s.2 here)
-    (⊎_elim (λ s. subst (Folds (kept_from c.args.self.now.ops c.args.place)) s.2 here) (λ n. subst (Folds (kept_from c.args.self.now.ops c.args.place)) n here))) c.in-Line.is
+    (⊎_elim (λ s. subst (Folds (kept_from c.args.self.now.ops c.args.place)) s.2 here) (λ n. subst (Folds (kept_from c.args.self.now.ops c.args.place)) n here)))) c.in-Line.is

@@ -1,19 +1,17 @@
-use Rattle.std.proofs.Common.{◌≡◌, length, ap, sym, subst, ◌∙◌, true}
+use Rattle.std.proofs.Common.{◌≡◌, length, ap, sym, subst, ◌∙◌}
 use Rattle.std.specs.FinMap as finite
 use Rattle.arr_store.specs.Slots.{slots_of}
 use Rattle.arr_store.specs.Stored.{cells}
 use Rattle.arr_strips.specs.Blocks.{stores}
-use Rattle.arr_strips.specs.Registers.{register_views}
-use Rattle.arr_strips.specs.Strips.{Bases, loaded, outline, stored}
+use Rattle.arr_strips.specs.Strips.{Bases, outline, stored}
 use Rattle.arr_lanes.specs.Spares.{HasRoom}
 use Rattle.arr_machine.specs.Ports.{lane_columns}
 use Rattle.arr_machine.specs.Standing.{Advances}
 use Rattle.arr_machine.specs.Tasks.{AreTasks, Steady, TypedLanes}
-use Rattle.arr_machine.proofs.Gates.{registered}
 use Rattle.arr_machine.proofs.Lines.{written_back}
 use Rattle.arr_machine.proofs.Saves.{outline_stored}
 use Rattle.arr_machine.proofs.Steadies.{steady_more, tasks_steady, typed_steady}
-use Rattle.arr_machine.proofs.Walking.{all_each, strip_walks}
+use Rattle.arr_machine.proofs.Walking.{strip_walks}
 use Rattle.arr_machine.proofs.walk.Machine.run_strip.Goals as goal
 
 pub run_tasks-requires-clause-tasks : goal.run_tasks-requires-clause-tasks
@@ -52,7 +50,6 @@ returns-clause-walks c m start fit w =
     let back_2 = written_back c.args.self.now.lanes.len c.run_tasks.new.lanes _ c.as_mut_slice-2.result.now c.as_mut_slice-2.ensures.value c.as_mut_slice-2.ensures.len c.run_tasks.ensures.steady.long in
     let steady_2 : Steady c.args.ops.now c.args.strip.room c.load_ports.new.lanes c.run_tasks.new.lanes = subst (λ ls. Steady c.args.ops.now c.args.strip.room ls c.run_tasks.new.lanes) back c.run_tasks.ensures.steady in
     strip_walks c.args.ops.now m start c.args.strip.position c.args.strip.count c.args.strip.room c.requires.strip fit
-    (all_each (λ v. loaded (register_views c.args.ops.now) v ≡ true) (stores c.args.ops.now) (λ k v l e. registered c.args.ops.now (stores c.args.ops.now) c.args.self.now.stores.items c.requires.machine.stores k v l e))
     (cells c.args.store.now) c.load_ports.new.lanes c.run_tasks.new.lanes c.args.numbers.now c.run_tasks.new.numbers (slots_of c.args.slots.now) (slots_of c.run_tasks.new.slots)
     c.load_ports.ensures.loaded
     (subst (λ ls. Advances c.args.ops.now c.args.strip.position c.args.strip.count 0 (length c.args.ops.now) ls c.args.numbers.now (slots_of c.args.slots.now) c.run_tasks.new.lanes c.run_tasks.new.numbers (slots_of c.run_tasks.new.slots)) back
