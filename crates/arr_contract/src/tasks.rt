@@ -244,6 +244,9 @@ fn task_of(
         to: op.to,
         dest,
     };
+    if is_link(ops, index, out) {
+        return Task::Link(line);
+    }
     Task::Line(line)
 }
 

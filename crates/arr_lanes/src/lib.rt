@@ -8,9 +8,9 @@
 //! The promise: after a line its lane holds the value of its opcode, as `arr_num` defines it, at each position, after a sum the sum,
 //! and every other lane is as it was. No call but `Spares::new` takes memory.
 //!
-//! The definitions: `specs/Lanes.antt` has the number at a place of a lane, what a line computes (`work_value`), and the line of
-//! `arr_strips` that it stands for (`shown`); `ran` of `arr_strips` runs lines at one position. `specs/Sums.antt` has the sum at a
-//! place (`sum_value`).
+//! The definitions: `specs/Lanes.antt` has the number at a place of a lane, and the line of `arr_strips` that a line stands for
+//! (`shown`); `line_value` of `arr_strips` is what that computes, and `ran` runs lines at one position. `specs/Sums.antt` has the sum
+//! at a place (`sum_value`).
 #![tactic(auto)]
 
 mod fill;
