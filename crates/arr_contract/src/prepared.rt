@@ -1,11 +1,10 @@
 //! A block that is ready to run.
-ghost use Rattle.std.specs.Prelude.{ℕ, ◌≡◌, ◌+◌, ◌*◌, ◌<◌, ◌≤◌, ◌^◌, IfOk, IsTrue, Option, Some, false, get_or, length, pos, set, true};
+ghost use Rattle.std.specs.Prelude.{ℕ, ◌≡◌, ◌+◌, ◌*◌, ◌<◌, ◌≤◌, ◌^◌, IfOk, IsTrue, Some, false, get_or, length, pos, set, true};
 ghost use Rattle.std.specs.List.{AllByRecursion, list_any};
 ghost use Rattle.arr_num.specs.Kinds.{is_reduction};
 ghost use Rattle.arr_ops.specs.declared.op.Op.{Op};
-ghost use Rattle.arr_ops.specs.Costs.{reads, total, writes};
-ghost use Rattle.arr_ops.specs.Fits.{fits};
-ghost use Rattle.arr_ops.specs.Memory.{Memory, Slot, read};
+ghost use Rattle.arr_ops.specs.Costs.{reads, writes};
+ghost use Rattle.arr_ops.specs.Memory.{read};
 ghost use Rattle.arr_view.specs.Views.{elements, positions};
 ghost use Rattle.arr_picks.specs.Picks.{AllBelow};
 ghost use Rattle.arr_store.specs.Cells.{size_at, width_at};
@@ -16,8 +15,8 @@ ghost use Rattle.arr_strips.specs.Blocks.{block_positions, stores};
 ghost use Rattle.arr_strips.specs.Strips.{outline, put_at};
 ghost use Rattle.arr_shift.specs.Shifts.{is_shift};
 ghost use Rattle.arr_machine.specs.Kept.{StartsFolds, TypedKept, kept_from};
-ghost use Rattle.arr_machine.specs.Machines.{Walks};
-ghost use Rattle.arr_machine.specs.Ports.{IsThere};
+ghost use Rattle.arr_machine.specs.Machines.{WalksOn};
+ghost use Rattle.arr_machine.specs.Ports.{IsThere, widths};
 ghost use Rattle.arr_machine.specs.Shown.{SlotsMatch};
 ghost use Rattle.arr_ops.specs.Formed.{is_formed};
 ghost use Rattle.arr_ops.specs.Ops.{serial};
@@ -237,10 +236,7 @@ impl Prepared {
         requires slots { SlotsMatch self.old.ops (slots_of slots.old) }
         requires loads { store.old.loads < 2 ^ 61 }
         requires saves { store.old.stores < 2 ^ 61 }
-        ensures walks { (m : Memory) (start : ℕ → Option Slot) → fits m self.old.ops ≡ true
-            → Walks self.old.ops m start 0 (cells store.old) self.old.numbers (slots_of slots.old)
-            → Walks self.old.ops m start (block_positions self.old.ops) (cells store.new) self.new.numbers
-            (slots_of slots.new) }
+        ensures walks { WalksOn self.old.ops 0 (block_positions self.old.ops) store.old self.old.numbers slots.old store.new self.new.numbers slots.new }
         ensures same { (b : ℕ) → outline (cells store.new b) ≡ outline (cells store.old b) }
         ensures ops { self.new.ops ≡ self.old.ops }
         ensures long { length self.new.numbers ≡ length self.old.numbers }
@@ -248,11 +244,9 @@ impl Prepared {
         ensures slots { SlotsMatch self.old.ops (slots_of slots.new) }
         ensures made { store.new.made ≡ store.old.made }
         ensures loads { store.new.loads
-            ≡ store.old.loads + block_positions self.old.ops * total (λ v. width_at (cells store.old v.base))
-            (reads self.old.ops) }
+            ≡ store.old.loads + block_positions self.old.ops * widths (cells store.old) (reads self.old.ops) }
         ensures saves { store.new.stores
-            ≡ store.old.stores + block_positions self.old.ops * total (λ v. width_at (cells store.old v.base))
-            (stores self.old.ops) }
+            ≡ store.old.stores + block_positions self.old.ops * widths (cells store.old) (stores self.old.ops) }
     {
         self.machine.walk(
             self.ops.as_slice(),

@@ -1,5 +1,5 @@
 //! How many numbers a block keeps as scratch.
-ghost use Rattle.std.specs.Prelude.{◌≡◌, ◌≤◌, ◌*◌, ◌&&◌, ◌||◌, ◌/◌, not, cond, get_or, IfOk, length};
+ghost use Rattle.std.specs.Prelude.{◌≡◌, ◌≤◌, ◌&&◌, ◌||◌, ◌/◌, not, cond, get_or, IfOk, length};
 ghost use Rattle.std.specs.List.{list_any};
 ghost use Rattle.std.specs.Option.{option_map, option_to_list};
 ghost use Rattle.arr_num.specs.Kinds.{is_reduction, is_scan};

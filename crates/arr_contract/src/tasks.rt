@@ -1,5 +1,5 @@
 //! The task of each operation of a block.
-ghost use Rattle.std.specs.Prelude.{ℕ, ◌≡◌, ◌+◌, ◌*◌, ◌<◌, ◌≤◌, IfOk, Some, drop, get_or, length, map, nat_le, pos, suc, take, false, true};
+ghost use Rattle.std.specs.Prelude.{◌≡◌, ◌+◌, ◌*◌, ◌<◌, ◌≤◌, IfOk, Some, drop, get_or, length, map, nat_le, pos, suc, take, false, true};
 ghost use Rattle.std.specs.List.{flat_map, list_all};
 ghost use Rattle.arr_num.specs.Kinds.{is_element_wise, is_fold};
 ghost use Rattle.arr_view.specs.Views.{most_elements, positions};

@@ -1,19 +1,20 @@
 -- Views that a strip loads or stores.
-use Rattle.std.specs.Prelude.{ℕ, ◌≡◌, ◌-◌, ◌<◌, List, true, get_or, length, Option}
+use Rattle.std.specs.Prelude.{ℕ, ◌≡◌, ◌+◌, ◌-◌, ◌<◌, List, true, get_or, length, Option}
 use Rattle.arr_view.specs.Strided.{Strided}
 use Rattle.arr_view.specs.Views.{elements, positions}
 use Rattle.arr_ops.specs.declared.op.Op.{Op}
-use Rattle.arr_ops.specs.Costs.{elem_of}
+use Rattle.arr_ops.specs.Costs.{elem_of, reads, total}
 use Rattle.arr_ops.specs.Memory.{Cell}
 use Rattle.arr_picks.specs.Picks.{AllBelow}
-use Rattle.arr_store.specs.Cells.{size_at}
+use Rattle.arr_store.specs.Cells.{number_at, size_at, width_at}
 use Rattle.arr_store.specs.Runs.{IsOf}
 use Rattle.arr_store.specs.declared.buffer.Buffer.{Buffer}
 use Rattle.arr_strips.specs.Blocks.{block_positions}
-use Rattle.arr_strips.specs.Columns.{Columns}
+use Rattle.arr_strips.specs.Columns.{Columns, place_at}
 use Rattle.arr_strips.specs.Registers.{number_in, register_views}
 use Rattle.arr_strips.specs.Strips.{loaded}
 use Rattle.arr_lanes.specs.Lanes.{number}
+use Rattle.arr_lanes.specs.declared.strip.Strip.{Strip}
 use Rattle.arr_machine.specs.declared.port.Port.{Port}
 
 -- each view of a list with the lane that is its register
@@ -35,3 +36,13 @@ pub record IsThere (ops : List Op) (f : ℕ → Option Cell) (v : Strided) : Typ
 -- lanes at each place of a strip that begins at p, as columns
 abbrev pub lane_columns : List Op → List Buffer → ℕ → Columns
 lane_columns ops lanes p q v = number lanes (number_in (register_views ops) v) (q - p)
+
+-- how many bytes one number of each of the views takes
+abbrev pub widths : (ℕ → Option Cell) → List Strided → ℕ
+widths f vs = total (λ (v : Strided). width_at (f v.base)) vs
+
+-- the register of each view that the block reads holds the numbers of the view at the strip
+abbrev pub AreLoaded : List Op → Strip → (ℕ → Option Cell) → List Buffer → Type 0
+AreLoaded ops s f lanes =
+    (v : Strided) → loaded (reads ops) v ≡ true → (i : ℕ) → i < s.count
+    → number lanes (number_in (register_views ops) v) i ≡ number_at (f v.base) (place_at v (s.position + i))

@@ -9,7 +9,9 @@ use Rattle.arr_store.specs.declared.buffer.Buffer.{Buffer}
 use Rattle.arr_strips.specs.Blocks.{block_positions, is_block}
 use Rattle.arr_strips.specs.Columns.{Columns, ends}
 use Rattle.arr_strips.specs.Registers.{number_in, register_views}
+use Rattle.arr_store.specs.Slots.{slots_of}
 use Rattle.arr_lanes.specs.Lanes.{number}
+use Rattle.arr_lanes.specs.declared.strip.Strip.{Strip}
 use Rattle.arr_machine.specs.Needed.{needed}
 use Rattle.arr_machine.specs.Kept.{AllKept, OpKept, TypedKept, kept_from}
 use Rattle.arr_machine.specs.Shown.{Showing, seen}
@@ -34,6 +36,16 @@ pub record Standing (ops : List Op) (p c k : ℕ) (h : Columns) (start : ℕ →
 abbrev pub Advances : List Op → ℕ → ℕ → ℕ → ℕ → List Buffer → List ℤ → (ℕ → Option Slot) → List Buffer → List ℤ → (ℕ → Option Slot) → Type 0
 Advances ops p c j k lanes numbers slots lanes' numbers' slots' =
     (h : Columns) (start : ℕ → Option Slot) → Standing ops p c j h start (number lanes) numbers slots → Standing ops p c k h start (number lanes') numbers' slots'
+
+-- the same at a strip, whatever slots hold
+abbrev pub Computes : List Op → Strip → ℕ → ℕ → List Buffer → List ℤ → List Buffer → List ℤ → Type 0
+Computes ops s j k lanes numbers lanes' numbers' =
+    (slots : ℕ → Option Slot) → Advances ops s.position s.count j k lanes numbers slots lanes' numbers' slots
+
+-- the same at a strip, from some slots to others
+abbrev pub Shows : List Op → Strip → ℕ → ℕ → List Buffer → List ℤ → List Slot → List Buffer → List ℤ → List Slot → Type 0
+Shows ops s j k lanes numbers slots lanes' numbers' slots' =
+    Advances ops s.position s.count j k lanes numbers (slots_of slots) lanes' numbers' (slots_of slots')
 
 -- lanes and numbers have room and types for the operations of a block
 pub record IsReady (ops : List Op) (room : ℕ) (lanes : List Buffer) (numbers : List ℤ) : Type 0 where

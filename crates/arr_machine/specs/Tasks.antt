@@ -83,6 +83,10 @@ IsTask ops room lanes k op (Fold along) = (kind op.code ≡ Reduction) × IsAlon
 IsTask ops room lanes k op (Show slot lane) = (kind op.code ≡ Printing) × ((op.slot ≡ Some slot) × Stands ops room lanes op.from op.first lane)
 IsTask ops room lanes k op Nothing = kind op.code ≡ Ending
 
+-- a task is that of the operation with an index
+abbrev pub IsTaskAt : List Op → ℕ → List Buffer → ℕ → Task → Type 0
+IsTaskAt ops room lanes k task = (op : Op) → op ≡ get_or ops k op → IsTask ops room lanes k op task
+
 -- one task for each operation
 pub record AreTasks (ops : List Op) (room : ℕ) (lanes : List Buffer) (tasks : List Task) : Type 0 where
   pub long : length tasks ≡ length ops

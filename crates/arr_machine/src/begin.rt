@@ -1,5 +1,5 @@
 //! Where the folds of a block begin.
-ghost use Rattle.std.specs.Prelude.{◌≡◌, ◌+◌, ◌*◌, ◌<◌, ◌≤◌, get_or, length, pos, true};
+ghost use Rattle.std.specs.Prelude.{◌≡◌, ◌+◌, ◌*◌, ◌<◌, ◌≤◌, length, pos, true};
 ghost use Rattle.arr_num.specs.declared.elem.Elem.{Elem};
 ghost use Rattle.arr_num.specs.Kinds.{is_fold};
 ghost use Rattle.arr_num.specs.Numbers.{fold_start as start_of};
@@ -9,7 +9,7 @@ ghost use Rattle.arr_ops.specs.declared.op.Op.{Op};
 ghost use Rattle.arr_strips.specs.Blocks.{is_block};
 ghost use Rattle.arr_sums.specs.Kept.{StepsEach};
 ghost use Rattle.arr_machine.specs.Kept.{StartsBelow, StartsFolds, TypedKept};
-ghost use Rattle.arr_machine.specs.Tasks.{AreTasks, IsTask};
+ghost use Rattle.arr_machine.specs.Tasks.{AreTasks, IsTaskAt};
 
 use crate::task::{Along, Task};
 use arr_num::fold_start;
@@ -50,7 +50,7 @@ fn start_task(
     requires block { is_block _ops.now ≡ true }
     requires types { each_typed _ops.now ≡ true }
     requires there { _index < length _ops.now }
-    requires task { (op : Op) → op ≡ get_or _ops.now _index op → IsTask _ops.now _room _lanes.now _index op task }
+    requires task { IsTaskAt _ops.now _room _lanes.now _index task }
     requires long { length numbers.old ≡ scratch _ops.now }
     requires kept { TypedKept _ops.now numbers.old }
     requires starts { StartsBelow _ops.now _index numbers.old }

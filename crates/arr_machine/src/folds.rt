@@ -1,10 +1,9 @@
 //! Reductions and scans over a strip.
-ghost use Rattle.std.specs.Prelude.{ℕ, ◌≡◌, ◌+◌, ◌<◌, ◌≤◌, Option, get_or, length};
-ghost use Rattle.arr_ops.specs.Memory.{Slot};
+ghost use Rattle.std.specs.Prelude.{◌≡◌, ◌+◌, ◌<◌, ◌≤◌, length};
 ghost use Rattle.arr_ops.specs.declared.op.Op.{Op};
 ghost use Rattle.arr_lanes.specs.Spares.{HasRoom};
-ghost use Rattle.arr_machine.specs.Standing.{Advances, IsReady, IsStripOf};
-ghost use Rattle.arr_machine.specs.Tasks.{IsTask, Steady};
+ghost use Rattle.arr_machine.specs.Standing.{Computes, IsReady, IsStripOf};
+ghost use Rattle.arr_machine.specs.Tasks.{IsTaskAt, Steady};
 
 use crate::task::{Along, Task};
 use arr_lanes::{Lane, Spares, Strip, numbers_of, put};
@@ -24,12 +23,9 @@ pub(crate) fn fold_lane(
 )
     requires strip { IsStripOf ops.now strip.position strip.count strip.room }
     requires there { index < length ops.now }
-    requires task { (op : Op) → op ≡ get_or ops.now index op
-        → IsTask ops.now strip.room lanes.now index op (Task.Fold along) }
+    requires task { IsTaskAt ops.now strip.room lanes.now index (Task.Fold along) }
     requires ready { IsReady ops.now strip.room lanes.now numbers.old }
-    ensures stands { (slots : ℕ → Option Slot)
-        → Advances ops.now strip.position strip.count index
-        (index + 1) lanes.now numbers.old slots lanes.now numbers.new slots }
+    ensures stands { Computes ops.now strip index (index + 1) lanes.now numbers.old lanes.now numbers.new }
     ensures ready { IsReady ops.now strip.room lanes.now numbers.new }
 {
     match along.elem {
@@ -51,13 +47,10 @@ fn fold_typed<T: Lane>(
 )
     requires strip { IsStripOf _ops.now strip.position strip.count strip.room }
     requires there { _index < length _ops.now }
-    requires task { (op : Op) → op ≡ get_or _ops.now _index op
-        → IsTask _ops.now strip.room lanes.now _index op (Task.Fold along) }
+    requires task { IsTaskAt _ops.now strip.room lanes.now _index (Task.Fold along) }
     requires ready { IsReady _ops.now strip.room lanes.now numbers.old }
     requires elem { along.elem ≡ T.elem }
-    ensures stands { (slots : ℕ → Option Slot)
-        → Advances _ops.now strip.position strip.count _index
-        (_index + 1) lanes.now numbers.old slots lanes.now numbers.new slots }
+    ensures stands { Computes _ops.now strip _index (_index + 1) lanes.now numbers.old lanes.now numbers.new }
     ensures ready { IsReady _ops.now strip.room lanes.now numbers.new }
 {
     let source: &[T] = numbers_of(lanes, along.source, strip.room);
@@ -85,13 +78,10 @@ pub(crate) fn scan_lane(
 )
     requires strip { IsStripOf ops.now strip.position strip.count strip.room }
     requires there { index < length ops.now }
-    requires task { (op : Op) → op ≡ get_or ops.now index op
-        → IsTask ops.now strip.room lanes.old index op (Task.Scan along dest) }
+    requires task { IsTaskAt ops.now strip.room lanes.old index (Task.Scan along dest) }
     requires ready { IsReady ops.now strip.room lanes.old numbers.old }
     requires spares { HasRoom strip.room spares.old }
-    ensures stands { (slots : ℕ → Option Slot)
-        → Advances ops.now strip.position strip.count index
-        (index + 1) lanes.old numbers.old slots lanes.new numbers.new slots }
+    ensures stands { Computes ops.now strip index (index + 1) lanes.old numbers.old lanes.new numbers.new }
     ensures ready { IsReady ops.now strip.room lanes.new numbers.new }
     ensures steady { Steady ops.now strip.room lanes.old lanes.new }
     ensures spares { HasRoom strip.room spares.new }
@@ -153,14 +143,11 @@ fn scan_typed<T: Lane>(
 )
     requires strip { IsStripOf _ops.now strip.position strip.count strip.room }
     requires there { _index < length _ops.now }
-    requires task { (op : Op) → op ≡ get_or _ops.now _index op
-        → IsTask _ops.now strip.room lanes.old _index op (Task.Scan along dest) }
+    requires task { IsTaskAt _ops.now strip.room lanes.old _index (Task.Scan along dest) }
     requires ready { IsReady _ops.now strip.room lanes.old numbers.old }
     requires spare { strip.room ≤ length spare.old.items }
     requires elem { along.elem ≡ T.elem }
-    ensures stands { (slots : ℕ → Option Slot)
-        → Advances _ops.now strip.position strip.count _index
-        (_index + 1) lanes.old numbers.old slots lanes.new numbers.new slots }
+    ensures stands { Computes _ops.now strip _index (_index + 1) lanes.old numbers.old lanes.new numbers.new }
     ensures ready { IsReady _ops.now strip.room lanes.new numbers.new }
     ensures steady { Steady _ops.now strip.room lanes.old lanes.new }
     ensures spare { strip.room ≤ length spare.new.items }

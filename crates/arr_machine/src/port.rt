@@ -1,16 +1,11 @@
 //! Views that a strip loads or stores, and their lanes.
-ghost use Rattle.std.specs.Prelude.{ℕ, ◌≡◌, ◌+◌, ◌*◌, ◌-◌, ◌<◌, ◌≤◌, ◌^◌, length, true};
+ghost use Rattle.std.specs.Prelude.{◌≡◌, ◌+◌, ◌*◌, ◌<◌, ◌≤◌, ◌^◌, length};
 ghost use Rattle.std.specs.List.{AllByRecursion};
-ghost use Rattle.arr_view.specs.Strided.{Strided};
-ghost use Rattle.arr_ops.specs.Costs.{reads, total};
-ghost use Rattle.arr_store.specs.Cells.{number_at, width_at};
+ghost use Rattle.arr_ops.specs.Costs.{reads};
 ghost use Rattle.arr_store.specs.Stored.{cells};
-ghost use Rattle.arr_strips.specs.Blocks.{block_positions, stores};
-ghost use Rattle.arr_strips.specs.Columns.{place_at};
-ghost use Rattle.arr_strips.specs.Registers.{number_in, register_views};
-ghost use Rattle.arr_strips.specs.Strips.{loaded, stored};
-ghost use Rattle.arr_lanes.specs.Lanes.{number};
-ghost use Rattle.arr_machine.specs.Ports.{ArePorts, IsThere, lane_columns};
+ghost use Rattle.arr_strips.specs.Blocks.{stores};
+ghost use Rattle.arr_strips.specs.Strips.{stored};
+ghost use Rattle.arr_machine.specs.Ports.{AreLoaded, ArePorts, IsThere, lane_columns, widths};
 ghost use Rattle.arr_machine.specs.Standing.{IsStripOf};
 ghost use Rattle.arr_machine.specs.Tasks.{Steady, TypedLanes};
 
@@ -40,13 +35,11 @@ pub(crate) fn load_ports(
     requires there { AllByRecursion (IsThere _ops.now (cells store.old)) (reads _ops.now) }
     requires typed { TypedLanes _ops.now strip.room lanes.old }
     requires room { store.old.loads < 2 ^ 61 + 2 ^ 40 }
-    ensures loaded { (v : Strided) → loaded (reads _ops.now) v ≡ true → (i : ℕ) → i < strip.count
-        → number lanes.new (number_in (register_views _ops.now) v) i
-        ≡ number_at (cells store.old v.base) (place_at v (strip.position + i)) }
+    ensures loaded { AreLoaded _ops.now strip (cells store.old) lanes.new }
     ensures steady { Steady _ops.now strip.room lanes.old lanes.new }
     ensures bases { store.new.bases ≡ store.old.bases }
     ensures loads { store.new.loads
-        ≡ store.old.loads + strip.count * total (λ v. width_at (cells store.old v.base)) (reads _ops.now) }
+        ≡ store.old.loads + strip.count * widths (cells store.old) (reads _ops.now) }
     ensures stores { store.new.stores ≡ store.old.stores }
     ensures made { store.new.made ≡ store.old.made }
 {
@@ -78,7 +71,7 @@ pub(crate) fn store_ports(
         ≡ stored strip.position strip.count (lane_columns _ops.now lanes.now strip.position) (stores _ops.now)
         (cells store.old) }
     ensures stores { store.new.stores
-        ≡ store.old.stores + strip.count * total (λ v. width_at (cells store.old v.base)) (stores _ops.now) }
+        ≡ store.old.stores + strip.count * widths (cells store.old) (stores _ops.now) }
     ensures loads { store.new.loads ≡ store.old.loads }
     ensures made { store.new.made ≡ store.old.made }
 {

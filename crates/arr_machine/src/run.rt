@@ -1,13 +1,12 @@
 //! The operations of a block, one after another, at one strip.
-ghost use Rattle.std.specs.Prelude.{ℕ, ℤ, ◌≡◌, ◌+◌, ◌<◌, ◌≤◌, List, Option, get_or, length};
-ghost use Rattle.arr_ops.specs.Memory.{Slot};
+ghost use Rattle.std.specs.Prelude.{◌≡◌, ◌+◌, ◌<◌, ◌≤◌, get_or, length};
 ghost use Rattle.arr_ops.specs.declared.op.Op.{Op};
 ghost use Rattle.arr_store.specs.Slots.{slots_of};
 ghost use Rattle.arr_lanes.specs.Spares.{HasRoom};
 ghost use Rattle.arr_machine.specs.Chains.{IsSumAt, additions};
 ghost use Rattle.arr_machine.specs.Shown.{SlotsMatch};
-ghost use Rattle.arr_machine.specs.Standing.{Advances, IsReady, IsStripOf};
-ghost use Rattle.arr_machine.specs.Tasks.{AreTasks, IsLine, IsTask, Steady};
+ghost use Rattle.arr_machine.specs.Standing.{Computes, IsReady, IsStripOf, Shows};
+ghost use Rattle.arr_machine.specs.Tasks.{AreTasks, IsLine, IsTaskAt, Steady};
 
 use crate::chain::{additions, sum_at};
 use crate::folds::{fold_lane, scan_lane};
@@ -32,9 +31,7 @@ fn compute_lane(
         → IsLine _ops.now strip.room lanes.old op line }
     requires ready { IsReady _ops.now strip.room lanes.old _numbers.now }
     requires spares { HasRoom strip.room spares.old }
-    ensures stands { (slots : ℕ → Option Slot)
-        → Advances _ops.now strip.position strip.count _index
-        (_index + 1) lanes.old _numbers.now slots lanes.new _numbers.now slots }
+    ensures stands { Computes _ops.now strip _index (_index + 1) lanes.old _numbers.now lanes.new _numbers.now }
     ensures ready { IsReady _ops.now strip.room lanes.new _numbers.now }
     ensures steady { Steady _ops.now strip.room lanes.old lanes.new }
     ensures spares { HasRoom strip.room spares.new }
@@ -58,9 +55,7 @@ fn compute_sum(
     requires sum { IsSumAt _tasks.now _index sum }
     requires ready { IsReady _ops.now strip.room lanes.old _numbers.now }
     requires spares { HasRoom strip.room spares.old }
-    ensures stands { (slots : ℕ → Option Slot)
-        → Advances _ops.now strip.position strip.count _index (_index + additions sum)
-        lanes.old _numbers.now slots lanes.new _numbers.now slots }
+    ensures stands { Computes _ops.now strip _index (_index + additions sum) lanes.old _numbers.now lanes.new _numbers.now }
     ensures ready { IsReady _ops.now strip.room lanes.new _numbers.now }
     ensures steady { Steady _ops.now strip.room lanes.old lanes.new }
     ensures spares { HasRoom strip.room spares.new }
@@ -81,12 +76,10 @@ fn show_lane(
 )
     requires strip { IsStripOf _ops.now strip.position strip.count strip.room }
     requires there { _index < length _ops.now }
-    requires task { (op : Op) → op ≡ get_or _ops.now _index op
-        → IsTask _ops.now strip.room lanes.now _index op (Task.Show slot lane) }
+    requires task { IsTaskAt _ops.now strip.room lanes.now _index (Task.Show slot lane) }
     requires ready { IsReady _ops.now strip.room lanes.now _numbers.now }
     requires slots { SlotsMatch _ops.now (slots_of slots.old) }
-    ensures stands { Advances _ops.now strip.position strip.count _index (_index + 1) lanes.now _numbers.now
-        (slots_of slots.old) lanes.now _numbers.now (slots_of slots.new) }
+    ensures stands { Shows _ops.now strip _index (_index + 1) lanes.now _numbers.now slots.old lanes.now _numbers.now slots.new }
     ensures slots { SlotsMatch _ops.now (slots_of slots.new) }
 {
     let run = Run {
@@ -110,12 +103,11 @@ fn run_task(
 )
     requires strip { IsStripOf ops.now strip.position strip.count strip.room }
     requires there { index < length ops.now }
-    requires task { (op : Op) → op ≡ get_or ops.now index op → IsTask ops.now strip.room lanes.old index op task }
+    requires task { IsTaskAt ops.now strip.room lanes.old index task }
     requires ready { IsReady ops.now strip.room lanes.old numbers.old }
     requires spares { HasRoom strip.room spares.old }
     requires slots { SlotsMatch ops.now (slots_of slots.old) }
-    ensures stands { Advances ops.now strip.position strip.count index (index + 1) lanes.old numbers.old
-        (slots_of slots.old) lanes.new numbers.new (slots_of slots.new) }
+    ensures stands { Shows ops.now strip index (index + 1) lanes.old numbers.old slots.old lanes.new numbers.new slots.new }
     ensures ready { IsReady ops.now strip.room lanes.new numbers.new }
     ensures steady { Steady ops.now strip.room lanes.old lanes.new }
     ensures spares { HasRoom strip.room spares.new }
@@ -154,8 +146,7 @@ fn run_next(
     requires slots { SlotsMatch ops.now (slots_of slots.old) }
     ensures behind { index < result }
     ensures inside { result ≤ length ops.now }
-    ensures stands { Advances ops.now strip.position strip.count index result lanes.old numbers.old
-        (slots_of slots.old) lanes.new numbers.new (slots_of slots.new) }
+    ensures stands { Shows ops.now strip index result lanes.old numbers.old slots.old lanes.new numbers.new slots.new }
     ensures ready { IsReady ops.now strip.room lanes.new numbers.new }
     ensures steady { Steady ops.now strip.room lanes.old lanes.new }
     ensures spares { HasRoom strip.room spares.new }
@@ -186,8 +177,7 @@ pub fn run_tasks(
     requires ready { IsReady ops.now strip.room lanes.old numbers.old }
     requires spares { HasRoom strip.room spares.old }
     requires slots { SlotsMatch ops.now (slots_of slots.old) }
-    ensures stands { Advances ops.now strip.position strip.count 0 (length ops.now) lanes.old numbers.old
-        (slots_of slots.old) lanes.new numbers.new (slots_of slots.new) }
+    ensures stands { Shows ops.now strip 0 (length ops.now) lanes.old numbers.old slots.old lanes.new numbers.new slots.new }
     ensures ready { IsReady ops.now strip.room lanes.new numbers.new }
     ensures steady { Steady ops.now strip.room lanes.old lanes.new }
     ensures spares { HasRoom strip.room spares.new }

@@ -1,19 +1,16 @@
 //! The walk of a block, strip by strip.
-ghost use Rattle.std.specs.Prelude.{ℕ, ◌≡◌, ◌+◌, ◌*◌, ◌<◌, ◌≤◌, ◌^◌, Option, length, true};
+ghost use Rattle.std.specs.Prelude.{ℕ, ◌≡◌, ◌+◌, ◌*◌, ◌<◌, ◌≤◌, ◌^◌, length, true};
 ghost use Rattle.std.specs.List.{AllByRecursion};
-ghost use Rattle.arr_ops.specs.Costs.{reads, total};
-ghost use Rattle.arr_ops.specs.Fits.{fits};
+ghost use Rattle.arr_ops.specs.Costs.{reads};
 ghost use Rattle.arr_ops.specs.Formed.{each_typed};
-ghost use Rattle.arr_ops.specs.Memory.{Memory, Slot};
 ghost use Rattle.arr_ops.specs.Traffic.{scratch};
-ghost use Rattle.arr_store.specs.Cells.{width_at};
 ghost use Rattle.arr_store.specs.Slots.{slots_of};
 ghost use Rattle.arr_store.specs.Stored.{cells};
 ghost use Rattle.arr_strips.specs.Blocks.{block_positions, is_block, stores};
 ghost use Rattle.arr_strips.specs.Strips.{outline};
 ghost use Rattle.arr_machine.specs.Kept.{TypedKept};
-ghost use Rattle.arr_machine.specs.Machines.{IsMachineOf, Walks};
-ghost use Rattle.arr_machine.specs.Ports.{IsThere};
+ghost use Rattle.arr_machine.specs.Machines.{IsMachineOf, WalksOn};
+ghost use Rattle.arr_machine.specs.Ports.{IsThere, widths};
 ghost use Rattle.arr_machine.specs.Shown.{SlotsMatch};
 ghost use Rattle.arr_machine.specs.Standing.{IsStripOf};
 
@@ -61,9 +58,7 @@ impl Machine {
         requires room { strip.room ≡ self.old.room }
         requires loads { store.old.loads < 2 ^ 61 + 2 ^ 40 }
         requires saves { store.old.stores < 2 ^ 61 + 2 ^ 40 }
-        ensures walks { (m : Memory) (start : ℕ → Option Slot) → fits m ops.now ≡ true
-            → Walks ops.now m start strip.position (cells store.old) numbers.old (slots_of slots.old)
-            → Walks ops.now m start (strip.position + strip.count) (cells store.new) numbers.new (slots_of slots.new) }
+        ensures walks { WalksOn ops.now strip.position (strip.position + strip.count) store.old numbers.old slots.old store.new numbers.new slots.new }
         ensures machine { IsMachineOf ops.now self.new }
         ensures same { (b : ℕ) → outline (cells store.new b) ≡ outline (cells store.old b) }
         ensures long { length numbers.new ≡ length numbers.old }
@@ -72,9 +67,9 @@ impl Machine {
         ensures made { store.new.made ≡ store.old.made }
         ensures room { self.new.room ≡ self.old.room }
         ensures loads { store.new.loads
-            ≡ store.old.loads + strip.count * total (λ v. width_at (cells store.old v.base)) (reads ops.now) }
+            ≡ store.old.loads + strip.count * widths (cells store.old) (reads ops.now) }
         ensures saves { store.new.stores
-            ≡ store.old.stores + strip.count * total (λ v. width_at (cells store.old v.base)) (stores ops.now) }
+            ≡ store.old.stores + strip.count * widths (cells store.old) (stores ops.now) }
     {
         load_ports(
             ops,
@@ -115,9 +110,7 @@ impl Machine {
         requires slots { SlotsMatch ops.now (slots_of slots.old) }
         requires loads { store.old.loads < 2 ^ 61 }
         requires saves { store.old.stores < 2 ^ 61 }
-        ensures walks { (m : Memory) (start : ℕ → Option Slot) → fits m ops.now ≡ true
-            → Walks ops.now m start 0 (cells store.old) numbers.old (slots_of slots.old)
-            → Walks ops.now m start (block_positions ops.now) (cells store.new) numbers.new (slots_of slots.new) }
+        ensures walks { WalksOn ops.now 0 (block_positions ops.now) store.old numbers.old slots.old store.new numbers.new slots.new }
         ensures machine { IsMachineOf ops.now self.new }
         ensures same { (b : ℕ) → outline (cells store.new b) ≡ outline (cells store.old b) }
         ensures long { length numbers.new ≡ length numbers.old }
@@ -126,11 +119,9 @@ impl Machine {
         ensures made { store.new.made ≡ store.old.made }
         ensures room { self.new.room ≡ self.old.room }
         ensures loads { store.new.loads
-            ≡ store.old.loads + block_positions ops.now * total (λ v. width_at (cells store.old v.base))
-            (reads ops.now) }
+            ≡ store.old.loads + block_positions ops.now * widths (cells store.old) (reads ops.now) }
         ensures saves { store.new.stores
-            ≡ store.old.stores + block_positions ops.now * total (λ v. width_at (cells store.old v.base))
-            (stores ops.now) }
+            ≡ store.old.stores + block_positions ops.now * widths (cells store.old) (stores ops.now) }
     {
         let positions = self.positions as usize;
         let mut at = 0;
