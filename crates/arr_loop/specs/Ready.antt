@@ -6,7 +6,8 @@ use Rattle.arr_view.specs.Views.{positions, same_lists}
 use Rattle.arr_ops.specs.declared.op.Op.{Op}
 use Rattle.arr_ops.specs.Fits.{fits}
 use Rattle.arr_ops.specs.Formed.{same_elem}
-use Rattle.arr_ops.specs.Memory.{Memory, Slot, lengths_of, without_slots}
+use Rattle.arr_ops.specs.Memory.{Memory, Slot, eager, lengths_of, without_slots}
+use Rattle.arr_ops.specs.Plans.{numbered, ops_of}
 use Rattle.arr_store.specs.Slots.{slots_of}
 use Rattle.arr_store.specs.Stored.{Stored, cells}
 use Rattle.arr_loop.specs.Opened.{opened_for, unopened}
@@ -34,3 +35,11 @@ pub record IsOpen (ops : List Op) (store : Stored) (slots : List Slot) : Type 0 
   pub fit : fits (without_slots (before_open ops store slots)) ops ≡ true
   pub opened : cells store ≡ opened_for ops ops (unopened ops (cells store))
   pub shown : AreShown (slots_of slots) ops
+
+-- the memory that a block leaves which was opened: its operations run, one after another, on the memory before
+abbrev pub left_by : List Op → Stored → List Slot → Memory
+left_by ops store slots = eager (before_open ops store slots) ops
+
+-- the memory that a block of a list leaves
+abbrev pub after : List Op → List ℕ → Stored → List Slot → Memory
+after list block store slots = eager (memory store slots) (ops_of (numbered list) block)

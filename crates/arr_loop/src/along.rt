@@ -1,5 +1,5 @@
 //! The results of scans and reductions, number by number.
-ghost use Rattle.std.specs.Prelude.{ℕ, ◌≡◌, ◌+◌, ◌*◌, ◌/◌, ◌%◌, ◌≤◌, ◌<◌, ◌^◌, [], ◌∷◌, Some, drop, get_or, length, nat_le, pos, suc, true};
+ghost use Rattle.std.specs.Prelude.{◌≡◌, ◌+◌, ◌*◌, ◌/◌, ◌%◌, ◌≤◌, ◌<◌, ◌^◌, [], ◌∷◌, Some, drop, get_or, length, nat_le, pos, suc, true};
 ghost use Rattle.std.specs.List.{list_all};
 ghost use Rattle.arr_num.specs.Kinds.{Reduction, Scan, kind};
 ghost use Rattle.arr_view.specs.Views.{most_elements, positions};
@@ -9,7 +9,7 @@ ghost use Rattle.arr_ops.specs.Memory.{computed, or_zero};
 ghost use Rattle.arr_ops.specs.Traffic.{axis_length};
 ghost use Rattle.arr_store.specs.Stored.{memory_of};
 ghost use Rattle.arr_strips.specs.Columns.{count};
-ghost use Rattle.arr_loop.specs.Numbers.{loads_each};
+ghost use Rattle.arr_loop.specs.Numbers.{AreResults, loads_each};
 ghost use Rattle.arr_machine.specs.Kept.{inner_of};
 
 use crate::computing::view_number;
@@ -103,8 +103,7 @@ pub(crate) fn scan_result(
     requires fits { op_fits (memory_of store.old) (op.now ∷ []) op.now ≡ true }
     requires there { position < count op.now }
     requires enough { position ≤ length prepared.now.numbers }
-    requires earlier { (q : ℕ) → q < position → get_or prepared.now.numbers q (pos 0)
-        ≡ get_or (computed (memory_of store.old) op.now) q (pos 0) }
+    requires earlier { AreResults prepared.now.numbers (memory_of store.old) op.now position }
     requires room { store.old.loads < 2 ^ 62 }
     ensures value { result ≡ get_or (computed (memory_of store.old) op.now) position (pos 0) }
     ensures loads { store.new.loads ≡ store.old.loads + loads_each op.now }

@@ -1,8 +1,9 @@
 //! Bases that a block frees.
 ghost use Rattle.std.specs.Prelude.{ℕ, ◌≡◌, IsSome, None, Some, cond, false, true};
 ghost use Rattle.arr_view.specs.Views.{has};
-ghost use Rattle.arr_ops.specs.Ops.{creates, freed, freed_by};
+ghost use Rattle.arr_ops.specs.Ops.{freed, freed_by};
 ghost use Rattle.arr_store.specs.Stored.{cells};
+ghost use Rattle.arr_loop.specs.Opened.{ContractedAreAbsent, FreedAreThere};
 
 use crate::opening::has;
 use arr_contract::Prepared;
@@ -36,10 +37,8 @@ fn drop_base(op: &Op, contracted: &[u32], store: &mut Store)
 
 /// Drops the bases that a block frees; those that it creates too have no buffer.
 pub(crate) fn drop_freed(prepared: &Prepared, store: &mut Store)
-    requires there { (b : ℕ) → freed_by prepared.now.ops b ≡ true → creates prepared.now.ops b ≡ false
-        → IsSome (cells store.old b) }
-    requires absent { (b : ℕ) → freed_by prepared.now.ops b ≡ true → creates prepared.now.ops b ≡ true
-        → cells store.old b ≡ None }
+    requires there { FreedAreThere prepared.now.ops (cells store.old) }
+    requires absent { ContractedAreAbsent prepared.now.ops (cells store.old) }
     ensures bases { (b : ℕ) → cells store.new b ≡ cond (freed_by prepared.now.ops b) None (cells store.old b) }
     ensures loads { store.new.loads ≡ store.old.loads }
     ensures stores { store.new.stores ≡ store.old.stores }

@@ -1,9 +1,8 @@
 //! The results of one operation, number by number, into the numbers that a block keeps.
-ghost use Rattle.std.specs.Prelude.{ℕ, ◌≡◌, ◌+◌, ◌*◌, ◌≤◌, ◌<◌, ◌^◌, [], ◌∷◌, Some, cond, get_or, length, nat_lt, pos, take, true};
+ghost use Rattle.std.specs.Prelude.{◌≡◌, ◌+◌, ◌*◌, ◌≤◌, ◌<◌, ◌^◌, [], ◌∷◌, Some, cond, get_or, length, nat_lt, pos, true};
 ghost use Rattle.std.specs.List.{list_all};
 ghost use Rattle.arr_num.specs.Kinds.{is_element_wise};
 ghost use Rattle.arr_view.specs.Views.{elements, positions};
-ghost use Rattle.arr_ops.specs.Costs.{total};
 ghost use Rattle.arr_ops.specs.Fits.{op_fits};
 ghost use Rattle.arr_ops.specs.Formed.{well_formed};
 ghost use Rattle.arr_ops.specs.Memory.{computed};
@@ -12,7 +11,7 @@ ghost use Rattle.arr_store.specs.Cells.{takes, width_at};
 ghost use Rattle.arr_store.specs.Stored.{cells, memory_of};
 ghost use Rattle.arr_strips.specs.Columns.{first_taken, taken};
 ghost use Rattle.arr_ops.specs.Traffic.{axis_length};
-ghost use Rattle.arr_loop.specs.Numbers.{loads_each, row_at, same_inputs, lie_inside};
+ghost use Rattle.arr_loop.specs.Numbers.{AreResults, lie_inside, loads_each, numbers_for, row_at, same_inputs, views_lie_inside, widths};
 ghost use Rattle.arr_machine.specs.Kept.{inner_of};
 
 use crate::along::{Rows, fold_result, rows_of, scan_result};
@@ -54,12 +53,12 @@ pub(crate) fn view_number(view: &View, position: u32, store: &mut Store) -> i128
 
 /// The number of an operand at a position; a constant stands at each, and 0 for none.
 fn operand_number(source: &Option<Operand>, position: u32, store: &mut Store) -> i128
-    requires inside { list_all (λ v. lie_inside (elements v) (cells store.old v.base)) (view_of source.now) ≡ true }
+    requires inside { views_lie_inside (cells store.old) (view_of source.now) ≡ true }
     requires there { list_all (λ v. nat_lt position (positions v.lengths)) (view_of source.now) ≡ true }
     requires room { store.old.loads < 2 ^ 62 }
     ensures number { result ≡ taken (row_at (cells store.old) position) source.now }
     ensures loads { store.new.loads
-        ≡ store.old.loads + total (λ v. width_at (cells store.old v.base)) (view_of source.now) }
+        ≡ store.old.loads + widths (cells store.old) (view_of source.now) }
     ensures bases { store.new.bases ≡ store.old.bases }
     ensures stores { store.new.stores ≡ store.old.stores }
     ensures made { store.new.made ≡ store.old.made }
@@ -74,12 +73,12 @@ fn operand_number(source: &Option<Operand>, position: u32, store: &mut Store) ->
 /// The number of the first operand at a position; RANGE has the position.
 fn first_number(op: &Op, position: u32, store: &mut Store) -> i128
     requires well { well_formed op.now ≡ true }
-    requires inside { list_all (λ v. lie_inside (elements v) (cells store.old v.base)) (view_of op.now.first) ≡ true }
+    requires inside { views_lie_inside (cells store.old) (view_of op.now.first) ≡ true }
     requires there { list_all (λ v. nat_lt position (positions v.lengths)) (view_of op.now.first) ≡ true }
     requires room { store.old.loads < 2 ^ 62 }
     ensures number { result ≡ first_taken op.now.code position (row_at (cells store.old) position) op.now.first }
     ensures loads { store.new.loads
-        ≡ store.old.loads + total (λ v. width_at (cells store.old v.base)) (view_of op.now.first) }
+        ≡ store.old.loads + widths (cells store.old) (view_of op.now.first) }
     ensures bases { store.new.bases ≡ store.old.bases }
     ensures stores { store.new.stores ≡ store.old.stores }
     ensures made { store.new.made ≡ store.old.made }
@@ -94,12 +93,12 @@ fn first_number(op: &Op, position: u32, store: &mut Store) -> i128
 fn second_number(op: &Op, shared: bool, left: i128, position: u32, store: &mut Store) -> i128
     requires shared { shared ≡ same_inputs op.now }
     requires left { shared ≡ true → left ≡ taken (row_at (cells store.old) position) op.now.first }
-    requires inside { list_all (λ v. lie_inside (elements v) (cells store.old v.base)) (view_of op.now.second) ≡ true }
+    requires inside { views_lie_inside (cells store.old) (view_of op.now.second) ≡ true }
     requires there { list_all (λ v. nat_lt position (positions v.lengths)) (view_of op.now.second) ≡ true }
     requires room { store.old.loads < 2 ^ 62 }
     ensures number { result ≡ taken (row_at (cells store.old) position) op.now.second }
     ensures loads { store.new.loads
-        ≡ store.old.loads + cond shared 0 (total (λ v. width_at (cells store.old v.base)) (view_of op.now.second)) }
+        ≡ store.old.loads + cond shared 0 (widths (cells store.old) (view_of op.now.second)) }
     ensures bases { store.new.bases ≡ store.old.bases }
     ensures stores { store.new.stores ≡ store.old.stores }
     ensures made { store.new.made ≡ store.old.made }
@@ -150,8 +149,7 @@ fn result_at(
     requires fits { op_fits (memory_of store.old) (op.now ∷ []) op.now ≡ true }
     requires there { position < positions out.now.lengths }
     requires enough { position ≤ length prepared.now.numbers }
-    requires earlier { (q : ℕ) → q < position → get_or prepared.now.numbers q (pos 0)
-        ≡ get_or (computed (memory_of store.old) op.now) q (pos 0) }
+    requires earlier { AreResults prepared.now.numbers (memory_of store.old) op.now position }
     requires room { store.old.loads + 16777216 ≤ 2 ^ 62 }
     ensures value { result ≡ get_or (computed (memory_of store.old) op.now) position (pos 0) }
     ensures loads { store.new.loads ≡ store.old.loads + loads_each op.now }
@@ -177,7 +175,7 @@ pub(crate) fn compute(op: &Op, out: &View, prepared: &mut Prepared, store: &mut 
     requires fits { op_fits (memory_of store.old) (op.now ∷ []) op.now ≡ true }
     requires enough { positions out.now.lengths ≤ length prepared.old.numbers }
     requires room { store.old.loads < 2 ^ 61 }
-    ensures numbers { take (positions out.now.lengths) prepared.new.numbers ≡ computed (memory_of store.old) op.now }
+    ensures numbers { numbers_for out.now prepared.new.numbers ≡ computed (memory_of store.old) op.now }
     ensures ops { prepared.new.ops ≡ prepared.old.ops }
     ensures long { length prepared.new.numbers ≡ length prepared.old.numbers }
     ensures loads { store.new.loads ≡ store.old.loads + positions out.now.lengths * loads_each op.now }

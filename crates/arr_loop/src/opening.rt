@@ -1,11 +1,9 @@
 //! The buffers that a block needs.
-ghost use Rattle.std.specs.Prelude.{ℕ, ◌≡◌, ◌+◌, ◌≤◌, ◌<◌, ◌^◌, not, OnOk, OnErr, cond, is_none, length, take, true};
-ghost use Rattle.std.specs.List.{filter, list_all};
+ghost use Rattle.std.specs.Prelude.{◌≡◌, ◌+◌, ◌≤◌, ◌<◌, ◌^◌, OnOk, OnErr, length, true};
 ghost use Rattle.arr_view.specs.Views.{has};
 ghost use Rattle.arr_ops.specs.Fits.{fits};
 ghost use Rattle.arr_store.specs.Stored.{cells, memory_of};
-ghost use Rattle.arr_strips.specs.Columns.{opened_by};
-ghost use Rattle.arr_loop.specs.Opened.{OpenedFor, made_by, unopened};
+ghost use Rattle.arr_loop.specs.Opened.{IsOpened, OpenedFor, PartOpened, are_absent, kept_of, unopened};
 
 use crate::NoMemory;
 use arr_contract::Prepared;
@@ -22,13 +20,11 @@ pub(crate) fn has(bases: &[u32], base: u32) -> bool
 
 /// Makes the buffer of the base that an operation creates, unless it is a contracted one.
 fn open_base(alloc: Global, op: &Op, contracted: &[u32], store: &mut Store) -> Result<(), NoMemory>
-    requires absent { list_all (λ b. is_none (cells store.old b))
-        (filter (λ b. not (has contracted.now b)) (made_by op.now)) ≡ true }
+    requires absent { are_absent (cells store.old) (kept_of contracted.now op.now) ≡ true }
     requires room { store.old.made < 2 ^ 62 }
-    ensures bases { OnOk result ((b : ℕ) → cells store.new b
-        ≡ cond (has contracted.now b) (cells store.old b) (opened_by op.now b (cells store.old b))) }
+    ensures bases { OnOk result (IsOpened contracted.now op.now (cells store.old) (cells store.new)) }
     ensures made { OnOk result (store.new.made
-        ≡ store.old.made + length (filter (λ b. not (has contracted.now b)) (made_by op.now))) }
+        ≡ store.old.made + length (kept_of contracted.now op.now)) }
     ensures one { OnOk result (store.new.made ≤ store.old.made + 1) }
     ensures loads { store.new.loads ≡ store.old.loads }
     ensures stores { store.new.stores ≡ store.old.stores }
@@ -57,7 +53,7 @@ pub fn open(alloc: Global, prepared: &Prepared, store: &mut Store) -> Result<(),
     ensures opened { OnOk result (OpenedFor prepared.now.ops prepared.now.ops store.old store.new) }
     ensures back { OnOk result (unopened prepared.now.ops (cells store.new) ≡ cells store.old) }
     ensures refused { OnErr result
-        ((n : ℕ) × OpenedFor prepared.now.ops (take n prepared.now.ops) store.old store.new) }
+        (PartOpened prepared.now.ops store.old store.new) }
 {
     let ops = prepared.ops();
     let contracted = prepared.contracted();

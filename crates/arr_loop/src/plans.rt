@@ -1,6 +1,6 @@
 //! A list that runs by a plan, block after block.
 ghost use Rattle.std.specs.Prelude.{◌≡◌, ◌+◌, ◌≤◌, ◌<◌, ◌^◌, OnOk, length, map, true};
-ghost use Rattle.arr_ops.specs.Costs.{reads, total, weight, writes};
+ghost use Rattle.arr_ops.specs.Costs.{reads, total, writes};
 ghost use Rattle.arr_ops.specs.Fits.{fits};
 ghost use Rattle.arr_ops.specs.Formed.{is_formed};
 ghost use Rattle.arr_ops.specs.Memory.{eager};
@@ -9,8 +9,9 @@ ghost use Rattle.arr_ops.specs.Traffic.{buffers, read_bytes, write_bytes};
 ghost use Rattle.arr_contract.specs.Prepared.{IsBlockOf};
 ghost use Rattle.arr_store.specs.Slots.{blank_slots, slots_of};
 ghost use Rattle.arr_store.specs.Stored.{cells, memory_of};
-ghost use Rattle.arr_loop.specs.Ready.{AreShown, IsOpen, before_open, memory};
+ghost use Rattle.arr_loop.specs.Ready.{AreShown, IsOpen, after, left_by, memory};
 ghost use Rattle.arr_loop.specs.Opened.{buffers_for};
+ghost use Rattle.arr_loop.specs.Numbers.{bytes_of};
 
 use crate::NoMemory;
 use crate::opening::open;
@@ -28,11 +29,11 @@ fn run_opened(prepared: &mut Prepared, store: &mut Store, slots: &mut Slots)
     requires room { store.old.loads < 2 ^ 61 }
     requires room_stores { store.old.stores < 2 ^ 61 }
     ensures bases { cells store.new
-        ≡ (eager (before_open prepared.old.ops store.old slots.old) prepared.old.ops).bases }
+        ≡ (left_by prepared.old.ops store.old slots.old).bases }
     ensures slots { slots_of slots.new
-        ≡ (eager (before_open prepared.old.ops store.old slots.old) prepared.old.ops).slots }
-    ensures loads { store.new.loads ≡ store.old.loads + total (weight prepared.old.ops) (reads prepared.old.ops) }
-    ensures stores { store.new.stores ≡ store.old.stores + total (weight prepared.old.ops) (writes prepared.old.ops) }
+        ≡ (left_by prepared.old.ops store.old slots.old).slots }
+    ensures loads { store.new.loads ≡ store.old.loads + bytes_of prepared.old.ops (reads prepared.old.ops) }
+    ensures stores { store.new.stores ≡ store.old.stores + bytes_of prepared.old.ops (writes prepared.old.ops) }
     ensures made { store.new.made ≡ store.old.made }
 {
     if prepared.serial() {
@@ -59,7 +60,7 @@ fn run_block(
     requires room_stores { store.old.stores < 2 ^ 61 }
     requires room_made { store.old.made < 2 ^ 61 }
     ensures memory { OnOk result (memory store.new slots.new
-        ≡ eager (memory store.old slots.old) (ops_of (numbered ops.now) block.now)) }
+        ≡ after ops.now block.now store.old slots.old) }
     ensures loads { OnOk result (store.new.loads ≡ store.old.loads + read_bytes ops.now block.now) }
     ensures stores { OnOk result (store.new.stores ≡ store.old.stores + write_bytes ops.now block.now) }
     ensures made { OnOk result (store.new.made ≡ store.old.made + buffers_for ops.now block.now) }

@@ -1,19 +1,16 @@
 //! A block with a serial operation: it computes into scratch, and then writes.
-ghost use Rattle.std.specs.Prelude.{◌≡◌, ◌+◌, ◌*◌, ◌≤◌, ◌<◌, ◌^◌, [], ◌∷◌, Some, cond, false, length, take, true};
-ghost use Rattle.std.specs.List.{list_all, list_any};
+ghost use Rattle.std.specs.Prelude.{◌≡◌, ◌+◌, ◌*◌, ◌≤◌, ◌<◌, ◌^◌, [], ◌∷◌, Some, false, length, true};
+ghost use Rattle.std.specs.List.{list_any};
 ghost use Rattle.arr_view.specs.Views.{elements, positions};
-ghost use Rattle.arr_ops.specs.Ops.{freed_by, serial};
-ghost use Rattle.arr_store.specs.Cells.{takes, width_at};
+ghost use Rattle.arr_ops.specs.Ops.{serial};
 ghost use Rattle.arr_store.specs.Stored.{cells, memory_of};
 ghost use Rattle.arr_store.specs.Slots.{slots_of};
-ghost use Rattle.arr_loop.specs.Ready.{IsOpen, before_open};
+ghost use Rattle.arr_loop.specs.Ready.{IsOpen, left_by};
 ghost use Rattle.arr_contract.specs.Prepared.{slides, writer};
-ghost use Rattle.arr_ops.specs.Costs.{reads, total, weight, writes};
-ghost use Rattle.arr_num.specs.Numbers.{width};
+ghost use Rattle.arr_ops.specs.Costs.{reads, writes};
 ghost use Rattle.arr_ops.specs.Fits.{op_fits};
 ghost use Rattle.arr_ops.specs.Formed.{well_formed};
-ghost use Rattle.arr_ops.specs.Memory.{computed, eager};
-ghost use Rattle.arr_loop.specs.Numbers.{loads_each, lie_inside, written};
+ghost use Rattle.arr_loop.specs.Numbers.{are_taken, bytes_of, lie_inside, loads_each, numbers_for, result_bytes, view_bytes, with_results, with_view};
 
 use crate::closing::{drop_freed, frees};
 use crate::computing::compute;
@@ -27,14 +24,12 @@ use arr_view::View;
 fn write_out(out: &View, prepared: &Prepared, store: &mut Store)
     requires enough { positions out.now.lengths ≤ length prepared.now.numbers }
     requires inside { lie_inside (elements out.now) (cells store.old out.now.base) ≡ true }
-    requires typed { list_all (takes (cells store.old out.now.base))
-        (take (positions out.now.lengths) prepared.now.numbers) ≡ true }
+    requires typed { are_taken (cells store.old out.now.base) (numbers_for out.now prepared.now.numbers) ≡ true }
     requires room { store.old.stores + 8388608 ≤ 2 ^ 62 }
     ensures bases { cells store.new
-        ≡ written (cells store.old) out.now.base (elements out.now)
-        (take (positions out.now.lengths) prepared.now.numbers) }
+        ≡ with_view (cells store.old) out.now prepared.now.numbers }
     ensures stores { store.new.stores
-        ≡ store.old.stores + positions out.now.lengths * width_at (cells store.old out.now.base) }
+        ≡ store.old.stores + view_bytes (cells store.old) out.now }
     ensures loads { store.new.loads ≡ store.old.loads }
     ensures made { store.new.made ≡ store.old.made }
 {
@@ -52,12 +47,10 @@ fn move_on(op: &Op, out: &View, prepared: &mut Prepared, store: &mut Store)
     requires slides { slides prepared.old.ops ≡ true }
     requires room { store.old.loads < 2 ^ 61 }
     requires room_stores { store.old.stores < 2 ^ 61 }
-    ensures bases { cells store.new ≡ cond (freed_by prepared.old.ops out.now.base) (cells store.old)
-        (written (cells store.old) out.now.base (elements out.now) (computed (memory_of store.old) op.now)) }
+    ensures bases { cells store.new ≡ with_results prepared.old.ops op.now out.now store.old }
     ensures loads { store.new.loads ≡ store.old.loads + positions out.now.lengths * loads_each op.now }
     ensures stores { store.new.stores
-        ≡ store.old.stores + cond (freed_by prepared.old.ops out.now.base) 0
-        (positions out.now.lengths * width op.now.to) }
+        ≡ store.old.stores + result_bytes prepared.old.ops op.now out.now }
     ensures made { store.new.made ≡ store.old.made }
     ensures same { prepared.new ≡ prepared.old }
 {
@@ -76,12 +69,10 @@ fn fill(op: &Op, out: &View, prepared: &mut Prepared, store: &mut Store)
     requires enough { slides prepared.old.ops ≡ false → positions out.now.lengths ≤ length prepared.old.numbers }
     requires room { store.old.loads < 2 ^ 61 }
     requires room_stores { store.old.stores < 2 ^ 61 }
-    ensures bases { cells store.new ≡ cond (freed_by prepared.old.ops out.now.base) (cells store.old)
-        (written (cells store.old) out.now.base (elements out.now) (computed (memory_of store.old) op.now)) }
+    ensures bases { cells store.new ≡ with_results prepared.old.ops op.now out.now store.old }
     ensures loads { store.new.loads ≡ store.old.loads + positions out.now.lengths * loads_each op.now }
     ensures stores { store.new.stores
-        ≡ store.old.stores + cond (freed_by prepared.old.ops out.now.base) 0
-        (positions out.now.lengths * width op.now.to) }
+        ≡ store.old.stores + result_bytes prepared.old.ops op.now out.now }
     ensures made { store.new.made ≡ store.old.made }
     ensures ops { prepared.new.ops ≡ prepared.old.ops }
     ensures long { length prepared.new.numbers ≡ length prepared.old.numbers }
@@ -107,11 +98,11 @@ pub fn run_serial(prepared: &mut Prepared, store: &mut Store, slots: &mut Slots)
     requires room { store.old.loads < 2 ^ 61 }
     requires room_stores { store.old.stores < 2 ^ 61 }
     ensures bases { cells store.new
-        ≡ (eager (before_open prepared.old.ops store.old slots.old) prepared.old.ops).bases }
+        ≡ (left_by prepared.old.ops store.old slots.old).bases }
     ensures slots { slots_of slots.new
-        ≡ (eager (before_open prepared.old.ops store.old slots.old) prepared.old.ops).slots }
-    ensures loads { store.new.loads ≡ store.old.loads + total (weight prepared.old.ops) (reads prepared.old.ops) }
-    ensures stores { store.new.stores ≡ store.old.stores + total (weight prepared.old.ops) (writes prepared.old.ops) }
+        ≡ (left_by prepared.old.ops store.old slots.old).slots }
+    ensures loads { store.new.loads ≡ store.old.loads + bytes_of prepared.old.ops (reads prepared.old.ops) }
+    ensures stores { store.new.stores ≡ store.old.stores + bytes_of prepared.old.ops (writes prepared.old.ops) }
     ensures made { store.new.made ≡ store.old.made }
     ensures ops { prepared.new.ops ≡ prepared.old.ops }
     ensures long { length prepared.new.numbers ≡ length prepared.old.numbers }

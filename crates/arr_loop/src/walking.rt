@@ -1,19 +1,15 @@
 //! A block without a serial operation: it is walked in strips, and then its sums are written.
-ghost use Rattle.std.specs.Prelude.{ℕ, ◌≡◌, ◌+◌, ◌*◌, ◌<◌, ◌≤◌, ◌^◌, false, get_or, length, map};
-ghost use Rattle.std.specs.List.{AllByRecursion, list_any, range_with_len};
-ghost use Rattle.arr_ops.specs.Costs.{reads, total, weight, writes};
-ghost use Rattle.arr_ops.specs.Memory.{eager};
+ghost use Rattle.std.specs.Prelude.{◌≡◌, ◌+◌, ◌<◌, ◌^◌, false, get_or, length};
+ghost use Rattle.std.specs.List.{list_any};
+ghost use Rattle.arr_ops.specs.Costs.{reads, writes};
 ghost use Rattle.arr_ops.specs.Ops.{serial};
 ghost use Rattle.arr_store.specs.Slots.{slots_of};
 ghost use Rattle.arr_store.specs.Stored.{cells};
 ghost use Rattle.arr_strips.specs.Blocks.{fold_stores};
-ghost use Rattle.arr_strips.specs.Columns.{count, folds_to};
-ghost use Rattle.arr_strips.specs.Strips.{kept, put_out};
-ghost use Rattle.arr_strips.specs.Sums.{closed_by};
 ghost use Rattle.arr_machine.specs.Kept.{TypedKept};
-ghost use Rattle.arr_machine.specs.Ports.{IsThere};
-ghost use Rattle.arr_loop.specs.Ready.{IsOpen, before_open};
-ghost use Rattle.arr_loop.specs.Sums.{sum_kept, sum_views};
+ghost use Rattle.arr_loop.specs.Ready.{IsOpen, left_by};
+ghost use Rattle.arr_loop.specs.Sums.{AreThere, fold_bytes, sum_bytes, sum_views, with_sum, with_sums};
+ghost use Rattle.arr_loop.specs.Numbers.{bytes_of};
 
 use crate::closing::{drop_freed, frees};
 use arr_contract::Prepared;
@@ -26,13 +22,12 @@ fn write_sum(op: &Op, place: usize, prepared: &Prepared, store: &mut Store)
     requires parallel { list_any serial prepared.now.ops ≡ false }
     requires place { place < length prepared.now.ops }
     requires op { op.now ≡ get_or prepared.now.ops place op.now }
-    requires there { AllByRecursion (IsThere prepared.now.ops (cells store.old)) (sum_views prepared.now.ops op.now) }
+    requires there { AreThere prepared.now.ops (cells store.old) (sum_views prepared.now.ops op.now) }
     requires kept { TypedKept prepared.now.ops prepared.now.numbers }
     requires room { store.old.stores < 2 ^ 62 }
-    ensures bases { cells store.new ≡ put_out (kept prepared.now.ops (folds_to op.now))
-        (map (sum_kept prepared.now.ops prepared.now.numbers place) (range_with_len 0 (count op.now))) (cells store.old) }
+    ensures bases { cells store.new ≡ with_sum prepared.now op.now place (cells store.old) }
     ensures stores { store.new.stores
-        ≡ store.old.stores + total (weight prepared.now.ops) (sum_views prepared.now.ops op.now) }
+        ≡ store.old.stores + sum_bytes prepared.now.ops op.now }
     ensures loads { store.new.loads ≡ store.old.loads }
     ensures made { store.new.made ≡ store.old.made }
 {
@@ -51,14 +46,13 @@ fn write_sum(op: &Op, place: usize, prepared: &Prepared, store: &mut Store)
 /// Writes the results of the reductions of a walked block, one after another, but for those whose base the block frees.
 fn write_sums(prepared: &Prepared, store: &mut Store)
     requires parallel { list_any serial prepared.now.ops ≡ false }
-    requires there { AllByRecursion (IsThere prepared.now.ops (cells store.old)) (fold_stores prepared.now.ops) }
+    requires there { AreThere prepared.now.ops (cells store.old) (fold_stores prepared.now.ops) }
     requires kept { TypedKept prepared.now.ops prepared.now.numbers }
-    requires room { store.old.stores + total (weight prepared.now.ops) (fold_stores prepared.now.ops) < 2 ^ 62 }
+    requires room { store.old.stores + fold_bytes prepared.now.ops < 2 ^ 62 }
     ensures bases { cells store.new
-        ≡ closed_by prepared.now.ops 0 prepared.now.ops (sum_kept prepared.now.ops prepared.now.numbers)
-        (cells store.old) }
+        ≡ with_sums prepared.now (cells store.old) }
     ensures stores { store.new.stores
-        ≡ store.old.stores + total (weight prepared.now.ops) (fold_stores prepared.now.ops) }
+        ≡ store.old.stores + fold_bytes prepared.now.ops }
     ensures loads { store.new.loads ≡ store.old.loads }
     ensures made { store.new.made ≡ store.old.made }
 {
@@ -79,11 +73,11 @@ pub fn run(prepared: &mut Prepared, store: &mut Store, slots: &mut Slots)
     requires room { store.old.loads < 2 ^ 61 }
     requires room_stores { store.old.stores < 2 ^ 61 }
     ensures bases { cells store.new
-        ≡ (eager (before_open prepared.old.ops store.old slots.old) prepared.old.ops).bases }
+        ≡ (left_by prepared.old.ops store.old slots.old).bases }
     ensures slots { slots_of slots.new
-        ≡ (eager (before_open prepared.old.ops store.old slots.old) prepared.old.ops).slots }
-    ensures loads { store.new.loads ≡ store.old.loads + total (weight prepared.old.ops) (reads prepared.old.ops) }
-    ensures stores { store.new.stores ≡ store.old.stores + total (weight prepared.old.ops) (writes prepared.old.ops) }
+        ≡ (left_by prepared.old.ops store.old slots.old).slots }
+    ensures loads { store.new.loads ≡ store.old.loads + bytes_of prepared.old.ops (reads prepared.old.ops) }
+    ensures stores { store.new.stores ≡ store.old.stores + bytes_of prepared.old.ops (writes prepared.old.ops) }
     ensures made { store.new.made ≡ store.old.made }
     ensures ops { prepared.new.ops ≡ prepared.old.ops }
     ensures long { length prepared.new.numbers ≡ length prepared.old.numbers }
