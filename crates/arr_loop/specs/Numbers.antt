@@ -42,10 +42,6 @@ written f b places numbers = assigned f b (changed (Writes places numbers) (f b)
 abbrev pub views_lie_inside : (ℕ → Option Cell) → List Strided → Bool
 views_lie_inside f vs = list_all (λ (v : Strided). lie_inside (elements v) (f v.base)) vs
 
--- how many bytes one number of each of the views takes
-abbrev pub widths : (ℕ → Option Cell) → List Strided → ℕ
-widths f vs = total (λ (v : Strided). width_at (f v.base)) vs
-
 -- how many bytes all numbers of the view take
 abbrev pub view_bytes : (ℕ → Option Cell) → Strided → ℕ
 view_bytes f v = positions v.lengths * width_at (f v.base)

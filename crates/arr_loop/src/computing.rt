@@ -11,8 +11,9 @@ ghost use Rattle.arr_store.specs.Cells.{takes, width_at};
 ghost use Rattle.arr_store.specs.Stored.{cells, memory_of};
 ghost use Rattle.arr_strips.specs.Columns.{first_taken, taken};
 ghost use Rattle.arr_ops.specs.Traffic.{axis_length};
-ghost use Rattle.arr_loop.specs.Numbers.{AreResults, lie_inside, loads_each, numbers_for, row_at, same_inputs, views_lie_inside, widths};
+ghost use Rattle.arr_loop.specs.Numbers.{AreResults, lie_inside, loads_each, numbers_for, row_at, same_inputs, views_lie_inside};
 ghost use Rattle.arr_machine.specs.Kept.{inner_of};
+ghost use Rattle.arr_machine.specs.Ports.{widths};
 
 use crate::along::{Rows, fold_result, rows_of, scan_result};
 use arr_contract::Prepared;

@@ -43,8 +43,8 @@ Computes ops s j k lanes numbers lanes' numbers' =
     (slots : ℕ → Option Slot) → Advances ops s.position s.count j k lanes numbers slots lanes' numbers' slots
 
 -- the same at a strip, from some slots to others
-abbrev pub Shows : List Op → Strip → ℕ → ℕ → List Buffer → List ℤ → List Slot → List Buffer → List ℤ → List Slot → Type 0
-Shows ops s j k lanes numbers slots lanes' numbers' slots' =
+abbrev pub GoesOn : List Op → Strip → ℕ → ℕ → List Buffer → List ℤ → List Slot → List Buffer → List ℤ → List Slot → Type 0
+GoesOn ops s j k lanes numbers slots lanes' numbers' slots' =
     Advances ops s.position s.count j k lanes numbers (slots_of slots) lanes' numbers' (slots_of slots')
 
 -- lanes and numbers have room and types for the operations of a block

@@ -5,7 +5,7 @@ ghost use Rattle.arr_store.specs.Slots.{slots_of};
 ghost use Rattle.arr_lanes.specs.Spares.{HasRoom};
 ghost use Rattle.arr_machine.specs.Chains.{IsSumAt, additions};
 ghost use Rattle.arr_machine.specs.Shown.{SlotsMatch};
-ghost use Rattle.arr_machine.specs.Standing.{Computes, IsReady, IsStripOf, Shows};
+ghost use Rattle.arr_machine.specs.Standing.{Computes, GoesOn, IsReady, IsStripOf};
 ghost use Rattle.arr_machine.specs.Tasks.{AreTasks, IsLine, IsTaskAt, Steady};
 
 use crate::chain::{additions, sum_at};
@@ -79,7 +79,7 @@ fn show_lane(
     requires task { IsTaskAt _ops.now strip.room lanes.now _index (Task.Show slot lane) }
     requires ready { IsReady _ops.now strip.room lanes.now _numbers.now }
     requires slots { SlotsMatch _ops.now (slots_of slots.old) }
-    ensures stands { Shows _ops.now strip _index (_index + 1) lanes.now _numbers.now slots.old lanes.now _numbers.now slots.new }
+    ensures stands { GoesOn _ops.now strip _index (_index + 1) lanes.now _numbers.now slots.old lanes.now _numbers.now slots.new }
     ensures slots { SlotsMatch _ops.now (slots_of slots.new) }
 {
     let run = Run {
@@ -107,7 +107,7 @@ fn run_task(
     requires ready { IsReady ops.now strip.room lanes.old numbers.old }
     requires spares { HasRoom strip.room spares.old }
     requires slots { SlotsMatch ops.now (slots_of slots.old) }
-    ensures stands { Shows ops.now strip index (index + 1) lanes.old numbers.old slots.old lanes.new numbers.new slots.new }
+    ensures stands { GoesOn ops.now strip index (index + 1) lanes.old numbers.old slots.old lanes.new numbers.new slots.new }
     ensures ready { IsReady ops.now strip.room lanes.new numbers.new }
     ensures steady { Steady ops.now strip.room lanes.old lanes.new }
     ensures spares { HasRoom strip.room spares.new }
@@ -146,7 +146,7 @@ fn run_next(
     requires slots { SlotsMatch ops.now (slots_of slots.old) }
     ensures behind { index < result }
     ensures inside { result ≤ length ops.now }
-    ensures stands { Shows ops.now strip index result lanes.old numbers.old slots.old lanes.new numbers.new slots.new }
+    ensures stands { GoesOn ops.now strip index result lanes.old numbers.old slots.old lanes.new numbers.new slots.new }
     ensures ready { IsReady ops.now strip.room lanes.new numbers.new }
     ensures steady { Steady ops.now strip.room lanes.old lanes.new }
     ensures spares { HasRoom strip.room spares.new }
@@ -177,7 +177,7 @@ pub fn run_tasks(
     requires ready { IsReady ops.now strip.room lanes.old numbers.old }
     requires spares { HasRoom strip.room spares.old }
     requires slots { SlotsMatch ops.now (slots_of slots.old) }
-    ensures stands { Shows ops.now strip 0 (length ops.now) lanes.old numbers.old slots.old lanes.new numbers.new slots.new }
+    ensures stands { GoesOn ops.now strip 0 (length ops.now) lanes.old numbers.old slots.old lanes.new numbers.new slots.new }
     ensures ready { IsReady ops.now strip.room lanes.new numbers.new }
     ensures steady { Steady ops.now strip.room lanes.old lanes.new }
     ensures spares { HasRoom strip.room spares.new }
