@@ -30,6 +30,19 @@ impl Buffer {
         }
     }
 
+    /// How many numbers it has.
+    #[inline]
+    pub fn len(&self) -> usize
+        ensures { result ≡ length (cell_of self.now).numbers }
+    {
+        match self {
+            Buffer::Bytes(numbers) => numbers.len(),
+            Buffer::Words(numbers) => numbers.len(),
+            Buffer::Longs(numbers) => numbers.len(),
+            Buffer::Naturals(numbers) => numbers.len(),
+        }
+    }
+
     /// How many bytes a number of it takes.
     #[inline]
     pub(crate) fn width(&self) -> u64

@@ -43,6 +43,24 @@ impl Store {
         }
     }
 
+    /// Counts so many numbers of a base that are read where they stand; the bytes loaded rise by the width of its type for each
+    /// (docs/PLANS.md, "The store").
+    #[inline]
+    pub fn count_loads(&mut self, base: u32, count: usize)
+        requires base { IsSome (cells self.old base) }
+        requires few { count ≤ MOST_ELEMENTS }
+        requires room { self.old.loads < 2 ^ 63 }
+        ensures bases { self.new.bases ≡ self.old.bases }
+        ensures loads { self.new.loads ≡ self.old.loads + count * width_at (cells self.old base) }
+        ensures stores { self.new.stores ≡ self.old.stores }
+        ensures made { self.new.made ≡ self.old.made }
+    {
+        match self.buffers.get(self.index[base as usize]) {
+            Some(kept) => self.loads += kept.buffer.bytes(count),
+            None => unreachable!(),
+        }
+    }
+
     /// Copies numbers of a lane of the type of a base, from its number `at` on, counted from 0, to the places of a run of it; the
     /// bytes stored rise by the width of that type for each (docs/PLANS.md, "The store").
     #[inline]

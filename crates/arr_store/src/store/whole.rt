@@ -51,8 +51,9 @@ impl Store {
         Ok(())
     }
 
-    /// The numbers of a base, to be read where they stand.
-    fn buffer(&self, base: u32) -> &Buffer
+    /// The numbers of a base, to be read where they stand: of its type, and as the store has them. No counter changes, so the bytes loaded
+    /// are not counted here: `count_loads` does that (docs/PLANS.md, "The store").
+    pub fn buffer(&self, base: u32) -> &Buffer
         requires { IsSome (cells self.now base) }
         ensures value { cells self.now base ≡ Some (cell_of result.now) }
         ensures lawful { IsTrue (lawful (cell_of result.now)) }
