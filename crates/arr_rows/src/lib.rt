@@ -7,7 +7,8 @@
 //!
 //! The promise: a `Rows` is seen as its view. `load` puts the number at each position of a strip into a lane, `store` puts those of a
 //! lane into the view, one after another, and `write_numbers` a list of numbers into a whole view. Each counts exactly the bytes that
-//! it moves. No call takes memory and none can fail.
+//! it moves. `place` says where the numbers of a strip stand in their base, if they stand side by side in one row, so that they can be
+//! read there. No call takes memory and none can fail.
 //!
 //! The definitions: `place_at`, the place of a view at a position, `part`, the places of a strip, and `put_at`, numbers written at
 //! places of one base, are those of arr_strips. `specs/Rows.antt` has how positions stand by rows, which no public clause names.

@@ -1,5 +1,5 @@
 //! Views that are loaded and stored by rows.
-ghost use Rattle.std.specs.Prelude.{◌≡◌, ℕ, ◌+◌, ◌*◌, ◌<◌, ◌≤◌, ◌^◌, get_or, length, pos, take};
+ghost use Rattle.std.specs.Prelude.{◌≡◌, ℕ, ◌+◌, ◌*◌, ◌<◌, ◌≤◌, ◌^◌, IfSome, get_or, length, pos, take};
 ghost use Rattle.arr_view.specs.Views.{elements, positions};
 ghost use Rattle.arr_picks.specs.Picks.{AllBelow};
 ghost use Rattle.arr_store.specs.Buffers.{cell_of};
@@ -100,6 +100,43 @@ impl Rows {
             let run = course.next_run(&self.view, count - done);
             store.store_run(self.view.base(), run, lane, done);
             done += run.count;
+        }
+    }
+
+    /// The base of the view.
+    #[inline]
+    pub fn base(&self) -> u32
+        ensures { result ≡ self.now.base }
+    {
+        self.view.base()
+    }
+
+    /// How many numbers stand side by side in each row of the view; 1 where those of a row do not.
+    #[inline]
+    pub fn row_length(&self) -> u32
+        ensures { 1 ≤ result }
+    {
+        if self.row.stride == 1 {
+            self.row.length
+        } else {
+            1
+        }
+    }
+
+    /// Where the first of some numbers of the view stands in its base, counted from 0, if all of them stand side by side in one row:
+    /// those at `count` positions from `position` on, counted from 0 (docs/PLANS.md, "Strips by rows").
+    #[inline]
+    pub fn place(&self, position: u32, count: usize) -> Option<u32>
+        requires some { 1 ≤ count }
+        requires within { position + count ≤ positions self.now.lengths }
+        ensures { IfSome result (λ start. (i : ℕ) → i < count → place_at self.now (position + i) ≡ start + i) }
+    {
+        let mut course = self.course(position);
+        let run = course.next_run(&self.view, count);
+        if run.stride == 1 && run.count == count {
+            Some(run.start)
+        } else {
+            None
         }
     }
 

@@ -9,7 +9,8 @@
 //! slots takes memory. `load` and `store` take constant time: an index leads from the base to its buffer. `load_run` and
 //! `store_run` move numbers that lie a stride apart ([`Run`]) between a base and any place of a [`Buffer`] of its type, and count each
 //! of them; `store_numbers` does so from a list of numbers, and `put_run` puts such numbers into a slot. `pick` reads by an index: it makes a base of the numbers that the index names, and counts what
-//! it loaded and stored. Each public call that reaches numbers of a base counts them itself, and no other call changes a counter.
+//! it loaded and stored. Each of these calls counts the numbers of a base that it reaches, and no other call changes a counter but
+//! `count_loads`: `buffer` shows the numbers of a base where they stand and counts none, and who reads them there counts them by it.
 //!
 //! The definitions: `specs/Stored.antt` has what a contract sees of a store, its bases as a function from numbers to cells (`cells`),
 //! as `Memory` of arr_ops has them, the memory that is made of them (`memory_of`), and the cell that reading by an index makes
