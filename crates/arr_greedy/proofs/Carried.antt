@@ -16,7 +16,7 @@ use Rattle.arr_greedy.specs.Bits.{bit}
 use Rattle.arr_greedy.specs.Fast.{amount, block_at, covers, flag, fuses_after, may_merge, row_pairs}
 use Rattle.arr_greedy.specs.Tables.{ReachesAfter}
 use Rattle.arr_greedy.specs.Standing.{AllPriced, ArePriced, PricesStay, blocks_of, saving_at}
-use Rattle.arr_greedy.proofs.Bounds.{back_in, both_in, front_in, in_below, in_index, key_is, pair_rises}
+use Rattle.arr_greedy.proofs.Bounds.{back_in, both_in, front_in, in_below, in_index, pair_rises}
 use Rattle.arr_greedy.proofs.Fast.{Saves, map_in}
 
 -- ---- pairs of fewer keys
@@ -47,28 +47,28 @@ true_not : (t : Bool) → (t ≡ true → ⊥) → t ≡ false
 true_not true h = absurd (h refl)
 true_not false h = refl
 
-module _ (R r : ℕ → ℕ → Bool) (w x y : ℕ) (hr : (p q : ℕ) → 0 < p → p < w → q < w → p ≢ y → r p q ≡ reach_after (λ k. k) R x y p q) where
+module _ (R r : ℕ → ℕ → Bool) (keys : List ℕ) (x y : ℕ) (hr : (p q : ℕ) → In p keys → In q keys → p ≢ y → r p q ≡ reach_after (λ k. k) R x y p q) where
   -- what reaches a block does so still; what reached one of the two reaches the first
-  elsewhere : (p q : ℕ) → 0 < p → p < w → q < w → p ≢ x → p ≢ y → q ≢ x → R p q ≡ true → r p q ≡ true
-  elsewhere p q pos pm qm px py qx e =
-      hr p q pos pm qm py
+  elsewhere : (p q : ℕ) → In p keys → In q keys → p ≢ x → p ≢ y → q ≢ x → R p q ≡ true → r p q ≡ true
+  elsewhere p q ip iq px py qx e =
+      hr p q ip iq py
       ∙ ap₂ (λ s t. cond s (cond t false (R x q || R y q)) (cond t (R p x || R p y) (R p q || ((R p x || R p y) && (R x q || R y q))))) (ne_eqb p x px) (ne_eqb q x qx)
       ∙ or_left (R p q) ((R p x || R p y) && (R x q || R y q)) e
 
-  to_first : (p : ℕ) → 0 < p → p < w → x < w → p ≢ x → p ≢ y → (R p x || R p y) ≡ true → r p x ≡ true
-  to_first p pos pm xm px py e =
-      hr p x pos pm xm py
+  to_first : (p : ℕ) → In p keys → In x keys → p ≢ x → p ≢ y → (R p x || R p y) ≡ true → r p x ≡ true
+  to_first p ip ix px py e =
+      hr p x ip ix py
       ∙ ap₂ (λ s t. cond s (cond t false (R x x || R y x)) (cond t (R p x || R p y) (R p x || ((R p x || R p y) && (R x x || R y x))))) (ne_eqb p x px) (eq-eqb x x refl) ∙ e
 
-  from_first : (q : ℕ) → 0 < x → x < w → q < w → x ≢ y → q ≢ x → (R x q || R y q) ≡ true → r x q ≡ true
-  from_first q pos xm qm ne qx e =
-      hr x q pos xm qm ne
+  from_first : (q : ℕ) → In x keys → In q keys → x ≢ y → q ≢ x → (R x q || R y q) ≡ true → r x q ≡ true
+  from_first q ix iq ne qx e =
+      hr x q ix iq ne
       ∙ ap₂ (λ s t. cond s (cond t false (R x q || R y q)) (cond t (R x x || R x y) (R x q || ((R x x || R x y) && (R x q || R y q))))) (eq-eqb x x refl) (ne_eqb q x qx) ∙ e
 
   -- where a block stood between two, one stands there now
-  stands : (a b c : ℕ) → 0 < a → 0 < b → 0 < c → 0 < x → a < w → b < w → x < w → c < w → x ≢ y → a ≢ x → a ≢ y → b ≢ x → b ≢ y
+  stands : (a b c : ℕ) → In a keys → In b keys → In c keys → In x keys → x ≢ y → a ≢ x → a ≢ y → b ≢ x → b ≢ y
       → lies_between (λ k. k) R a b c ≡ true → lies_between (λ k. k) r a b (cond (c == x || c == y) x c) ≡ true
-  stands a b c a0 b0 c0 x0 am bm xm cm ne ax ay bx by e =
+  stands a b c ia ib ic ix ne ax ay bx by e =
       let h = and_parts (not (c == a || c == b)) ((R a c && R c b) || (R b c && R c a)) e in
       elim (cases_eq c x) as (λ _. lies_between (λ k. k) r a b (cond (c == x || c == y) x c) ≡ true) [
         | inl f ↦
@@ -82,7 +82,7 @@ module _ (R r : ℕ → ℕ → Bool) (w x y : ℕ) (hr : (p q : ℕ) → 0 < p 
               ap₂ (λ s t. lies_between (λ k. k) r a b (cond (s || t) x c)) (ne_eqb c x f) (ne_eqb c y g)
               ∙ and_from (not (c == a || c == b)) ((r a c && r c b) || (r b c && r c a)) h.0
               (or_up (R a c) (R c b) (R b c) (R c a) (r a c) (r c b) (r b c) (r c a)
-              (elsewhere a c a0 am cm ax ay f) (elsewhere c b c0 cm bm f g bx) (elsewhere b c b0 bm cm bx by f) (elsewhere c a c0 cm am f g ax) h.1)
+              (elsewhere a c ia ic ax ay f) (elsewhere c b ic ib f g bx) (elsewhere b c ib ic bx by f) (elsewhere c a ic ia f g ax) h.1)
         ]
       ]
     where
@@ -97,28 +97,27 @@ module _ (R r : ℕ → ℕ → Bool) (w x y : ℕ) (hr : (p q : ℕ) → 0 < p 
       at_first to from d =
           ap₂ (λ s t. not (s || t) && ((r a x && r x b) || (r b x && r x a))) (ne_eqb x a (λ z. ax (sym z))) (ne_eqb x b (λ z. bx (sym z)))
           ∙ or_up (R a c) (R c b) (R b c) (R c a) (r a x) (r x b) (r b x) (r x a)
-          (λ q. to_first a a0 am xm ax ay (to a q)) (λ q. from_first b x0 xm bm ne bx (from b q)) (λ q. to_first b b0 bm xm bx by (to b q)) (λ q. from_first a x0 xm am ne ax (from a q)) d
+          (λ q. to_first a ia ix ax ay (to a q)) (λ q. from_first b ix ib ne bx (from b q)) (λ q. to_first b ib ix bx by (to b q)) (λ q. from_first a ix ia ne ax (from a q)) d
 
-pub may_before : (F R f r : ℕ → ℕ → Bool) (keys : List ℕ) (w x y : ℕ) → All (λ k. k < w) keys → All (λ k. 0 < k) keys → In x keys → x ≢ y
+pub may_before : (F R f r : ℕ → ℕ → Bool) (keys : List ℕ) (w x y : ℕ) → All (λ k. k < w) keys → In x keys → x ≢ y
     → ((p q : ℕ) → p < w → q < w → f p q ≡ fuses_after F x y p q)
-    → ((p q : ℕ) → 0 < p → p < w → q < w → p ≢ y → r p q ≡ reach_after (λ k. k) R x y p q)
+    → ((p q : ℕ) → In p keys → In q keys → p ≢ y → r p q ≡ reach_after (λ k. k) R x y p q)
     → (p : ℕ × ℕ) → In p (pairs (filter (λ k. not (k == y)) keys)) → p.0 ≢ x → p.1 ≢ x
     → may_merge f r (filter (λ k. not (k == y)) keys) p ≡ true → may_merge F R keys p ≡ true
-may_before F R f r keys w x y inside above ix ne hf hr p i px qx e =
+may_before F R f r keys w x y inside ix ne hf hr p i px qx e =
     let left : List ℕ = filter (λ k. not (k == y)) keys in
     let b = both_in left p i in
     let s = in_filter (λ k. not (k == y)) keys p.0 b.0 in
     let t = in_filter (λ k. not (k == y)) keys p.1 b.1 in
     let pm : p.0 < w = in_below keys w inside p.0 s.0 in
     let qm : p.1 < w = in_below keys w inside p.1 t.0 in
-    let xm : x < w = in_below keys w inside x ix in
     let h = and_parts (f p.0 p.1) (not (list_any (lies_between (λ k. k) r p.0 p.1) left)) e in
     let same : f p.0 p.1 ≡ F p.0 p.1 = hf p.0 p.1 pm qm ∙ ap₂ (λ s t. cond s (F x p.1 && F y p.1) (cond t (F p.0 x && F p.0 y) (F p.0 p.1))) (ne_eqb p.0 x px) (ne_eqb p.1 x qx) in
     let none : list_any (lies_between (λ k. k) R p.0 p.1) keys ≡ false = any_false (lies_between (λ k. k) R p.0 p.1) keys (λ c m.
     true_not (lies_between (λ k. k) R p.0 p.1 c) (λ q.
     let there : In (cond (c == x || c == y) x c) left = still (c == x) (c == y) c m refl refl in
     false≢true (sym (false_any (lies_between (λ k. k) r p.0 p.1) left (not_true (list_any (lies_between (λ k. k) r p.0 p.1) left) h.1) (cond (c == x || c == y) x c) there)
-    ∙ stands R r w x y hr p.0 p.1 c (key_is (λ k. 0 < k) keys above p.0 s.0) (key_is (λ k. 0 < k) keys above p.1 t.0) (key_is (λ k. 0 < k) keys above c m) (key_is (λ k. 0 < k) keys above x ix) pm qm xm (in_below keys w inside c m) ne px (not_last p.0 s.1) qx (not_last p.1 t.1) q))) in
+    ∙ stands R r keys x y hr p.0 p.1 c s.0 t.0 m ix ne px (not_last p.0 s.1) qx (not_last p.1 t.1) q))) in
     and_from (F p.0 p.1) (not (list_any (lies_between (λ k. k) R p.0 p.1) keys)) (sym same ∙ h.0) (ap not none)
   where
     not_last : (k : ℕ) → not (k == y) ≡ true → k ≢ y
@@ -137,15 +136,15 @@ saves_of list blocks F R keys V bounds w h e =
     subst (λ ks. (p : ℕ × ℕ) → In p (pairs ks) → may_merge (flag F w) (bit R w) ks p ≡ true → amount V w p.0 p.1 ≡ saving list (block_at p.0 (blocks_of blocks), block_at p.1 (blocks_of blocks))) e (λ p i t. (h p i t).0)
 
 pub priced_after : (list : List Op) (before after : List Block) (F f : List Bool) (R r : List ℕ) (keys next : List ℕ) (V v : List ℕ) (bounds bounds_after : List (Option ℕ)) (w x y : ℕ)
-    → all_pairs nat_lt next ≡ true → All (λ k. k < w) keys → All (λ k. 0 < k) keys → In x keys → x ≢ y → next ≡ filter (λ k. not (k == y)) keys
+    → all_pairs nat_lt next ≡ true → All (λ k. k < w) keys → In x keys → x ≢ y → next ≡ filter (λ k. not (k == y)) keys
     → ((p q : ℕ) → p < w → q < w → flag f w p q ≡ fuses_after (flag F w) x y p q)
-    → ReachesAfter R r w x y
+    → ReachesAfter keys R r w x y
     → ((k : ℕ) → In k next → k ≢ x → block_at k (blocks_of after) ≡ block_at k (blocks_of before))
     → AllPriced list before F R keys V bounds w
     → ArePriced list after f r next v bounds_after w x 0
     → PricesStay list after f r V bounds v bounds_after w
     → AllPriced list after f r next v bounds_after w
-priced_after list before after F f R r keys next V v bounds bounds_after w x y rises inside above ix ne en hf hr same old new stays p i =
+priced_after list before after F f R r keys next V v bounds bounds_after w x y rises inside ix ne en hf hr same old new stays p i =
     let b = both_in next p i in
     let l : p.0 < p.1 = pair_rises next (pairs_of nat_lt next rises) p i in
     elim (cases_eq p.0 x) as (λ _. Now p.0 p.1) [
@@ -163,7 +162,7 @@ priced_after list before after F f R r keys next V v bounds bounds_after w x y r
             let m = pairs_less (λ k. not (k == y)) keys p i' in
             let k = both_in keys p m in
             stays next p.0 p.1 (in_below keys w inside p.0 k.0) (in_below keys w inside p.1 k.1) (λ t.
-            let was = old p m (may_before (flag F w) (bit R w) (flag f w) (bit r w) keys w x y inside above ix ne hf hr p i' e g (ap (λ ks. may_merge (flag f w) (bit r w) ks p) (sym en) ∙ t)) in
+            let was = old p m (may_before (flag F w) (bit R w) (flag f w) (bit r w) keys w x y inside ix ne hf hr p i' e g (ap (λ ks. may_merge (flag f w) (bit r w) ks p) (sym en) ∙ t)) in
             (was.0 ∙ ap₂ (λ s u. saving list (s, u)) (sym (same p.0 b.0 e)) (sym (same p.1 b.1 g)), was.1))
       ]
     ]

@@ -85,7 +85,7 @@ pub turn_kept : (list : List Op) (blocks : List (List ℕ)) (fuses reaches : ℕ
     → (a b : List ℕ) → In a blocks → In b blocks → least_of a < least_of b → is_orderable list (merge (numbered list) a b blocks) ≡ true
     → (f r : ℕ → ℕ → Bool)
     → ((p q : ℕ) → p < w → q < w → f p q ≡ fuses_after fuses (least_of a) (least_of b) p q)
-    → ((p q : ℕ) → 0 < p → p < w → q < w → p ≢ least_of b → r p q ≡ reach_after (λ k. k) reaches (least_of a) (least_of b) p q)
+    → ((p q : ℕ) → In p (map least_of blocks) → In q (map least_of blocks) → p ≢ least_of b → r p q ≡ reach_after (λ k. k) reaches (least_of a) (least_of b) p q)
     → Kept list (merge (numbered list) a b blocks) f r
 turn_kept list blocks fuses reaches k w low a b m n l e f r hf hr =
     let xs : List (ℕ × Op) = numbered list in
@@ -93,19 +93,18 @@ turn_kept list blocks fuses reaches k w low a b m n l e f r hf hr =
     let same : least_of (union xs a b) ≡ least_of a = (joined list blocks a b k.partition m n l).same_key in
     let d : Distinct blocks = distinct_of (length list) blocks k.partition in
     let after : List (List ℕ) = merge xs a b blocks in
-    let bound : (c : List ℕ) → In c after → (least_of c < w) × (0 < least_of c) × (least_of c ≡ least_of b → ⊥) = λ c i.
-    elim (after_in xs blocks a b d m n apart c i) as (λ _. (least_of c < w) × (0 < least_of c) × (least_of c ≡ least_of b → ⊥)) [
+    let bound : (c : List ℕ) → In c after → (least_of c < w) × In (least_of c) (map least_of blocks) × (least_of c ≡ least_of b → ⊥) = λ c i.
+    elim (after_in xs blocks a b d m n apart c i) as (λ _. (least_of c < w) × In (least_of c) (map least_of blocks) × (least_of c ≡ least_of b → ⊥)) [
       | inl g ↦
           let h : least_of c ≡ least_of a = ap least_of g ∙ same in
           let s : least_of a < w = low a m in
-          let u : 0 < least_of a = positive list blocks k.partition a m in
-          (omega arith, omega arith, λ q. absurd (omega arith))
-      | inr s ↦ (low c s.0, positive list blocks k.partition c s.0, s.2)
+          (omega arith, subst (λ z. In z (map least_of blocks)) (sym h) (map_in least_of blocks a m), λ q. absurd (omega arith))
+      | inr s ↦ (low c s.0, map_in least_of blocks c s.0, s.2)
     ] in
     kept_same list after (fuses_after fuses (least_of a) (least_of b)) f (reach_after (λ k. k) reaches (least_of a) (least_of b)) r
     (kept_after list blocks fuses reaches k a b m n l e)
     (λ c g i h. hf (least_of c) (least_of g) (bound c i).0 (bound g h).0)
-    (λ c g i h. hr (least_of c) (least_of g) (bound c i).1 (bound c i).0 (bound g h).0 (bound c i).2)
+    (λ c g i h. hr (least_of c) (least_of g) (bound c i).1 (bound g h).1 (bound c i).2)
 
 pub to_kept : (list : List Op) (blocks : List (List ℕ)) (f r : ℕ → ℕ → Bool) → Told list blocks f r → Kept list blocks f r
 to_kept list blocks f r t =
@@ -155,7 +154,7 @@ pub turned : (list : List Op) (blocks after : List (List ℕ)) (F R : ℕ → �
     → after ≡ merge (numbered list) (block_at x blocks) (block_at y blocks) blocks
     → after_keys ≡ filter (λ k. not (k == y)) keys
     → ((p q : ℕ) → p < w → q < w → f p q ≡ fuses_after F x y p q)
-    → ((p q : ℕ) → 0 < p → p < w → q < w → p ≢ y → r p q ≡ reach_after (λ k. k) R x y p q)
+    → ((p q : ℕ) → In p keys → In q keys → p ≢ y → r p q ≡ reach_after (λ k. k) R x y p q)
     → Turned list blocks after f r keys after_keys x y
 turned list blocks after F R V keys after_keys w x y f r k saves ek inside e eb eks hf hr =
     let xs : List (ℕ × Op) = numbered list in
@@ -170,7 +169,7 @@ turned list blocks after F R V keys after_keys w x y f r k saves ek inside e eb 
     let kept : Kept list (merge xs a b blocks) f r =
     turn_kept list blocks F R k w low a b t.in_left t.in_right t.before t.orderable f r
     (λ p q pm qm. hf p q pm qm ∙ ap₂ (λ s u. fuses_after F s u p q) (sym t.key_left) (sym t.key_right))
-    (λ p q pos pm qm ne. hr p q pos pm qm (λ z. ne (z ∙ sym t.key_right)) ∙ ap₂ (λ s u. reach_after (λ k. k) R s u p q) (sym t.key_left) (sym t.key_right)) in
+    (λ p q ip iq ne. hr p q (subst (In p) (sym ek) ip) (subst (In q) (sym ek) iq) (λ z. ne (z ∙ sym t.key_right)) ∙ ap₂ (λ s u. reach_after (λ k. k) R s u p q) (sym t.key_left) (sym t.key_right)) in
     record {
       kept = subst (λ bs. Kept list bs f r) (sym merged) kept;
       keys_are = named ∙ ap (map least_of) (sym merged);

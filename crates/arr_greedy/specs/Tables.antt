@@ -27,9 +27,13 @@ with_row table row other x y = cond (x == row) (other x y) (table x y)
 abbrev pub with_both : (ℕ → ℕ → Bool) → ℕ → ℕ → ℕ → ℕ → Bool
 with_both table a b x y = cond (y == a && not (x == a)) (table x a && table x b) (table x y)
 
--- one row, but that of a and that of b: if it has a or b, with what row a has
+-- one of two and not the other
+abbrev pub has_one : Bool → Bool → Bool
+has_one s t = cond s (not t) t
+
+-- one row, but that of a and that of b: if it has one of a and b and not the other, with what row a has
 abbrev pub with_gained : (ℕ → ℕ → Bool) → ℕ → ℕ → ℕ → ℕ → ℕ → Bool
-with_gained table a b row x y = cond ((x == row && not (row == a || row == b)) && (table row a || table row b)) (table row y || table a y) (table x y)
+with_gained table a b row x y = cond ((x == row && not (row == a || row == b)) && has_one (table row a) (table row b)) (table row y || table a y) (table x y)
 
 -- some columns, but in row 0, as another table has them as rows
 abbrev pub with_turned : (ℕ → ℕ → Bool) → (ℕ → ℕ → Bool) → (ℕ → Bool) → ℕ → ℕ → Bool
@@ -63,9 +67,13 @@ with_keys table keys = with_row table 0 (λ x y. table x y || has keys y)
 abbrev pub with_shared : (ℕ → ℕ → Bool) → ℕ → ℕ → ℕ → ℕ → Bool
 with_shared table a b = with_row table a (λ x y. table a y && table b y)
 
--- each row but that of b and row 0 has what it reaches once a and b are one
-abbrev pub ReachesAfter : List ℕ → List ℕ → ℕ → ℕ → ℕ → Type 0
-ReachesAfter old new w a b = (x y : ℕ) → 0 < x → x < w → y < w → x ≢ b → bit new w x y ≡ reach_after (λ k. k) (bit old w) a b x y
+-- each key but b has which keys it reaches once a and b are one
+abbrev pub ReachesAfter : List ℕ → List ℕ → List ℕ → ℕ → ℕ → ℕ → Type 0
+ReachesAfter keys old new w a b = (x y : ℕ) → In x keys → In y keys → x ≢ b → bit new w x y ≡ reach_after (λ k. k) (bit old w) a b x y
+
+-- what a key reaches reaches no other key that it does not reach
+abbrev pub Onward : List ℕ → (ℕ → ℕ → Bool) → Type 0
+Onward keys table = (x y z : ℕ) → In x keys → In y keys → In z keys → table x y ≡ true → table y z ≡ true → table x z ≡ true
 
 -- each row has what it reaches by one step and on
 abbrev pub IsFilled : (ℕ → ℕ → Bool) → List ℕ → ℕ → Type 0
@@ -83,11 +91,12 @@ IsTurned rows turned w = (x y : ℕ) → x < w → 0 < y → y < w → bit turne
 abbrev pub NoLoopsAfter : List ℕ → ℕ → List ℕ → ℕ → ℕ → Type 0
 NoLoopsAfter reaches w keys a b = (x : ℕ) → In x keys → x ≢ b → reach_after (λ k. k) (bit reaches w) a b x x ≡ false
 
--- of the blocks that stand by their keys: which these are, what reaches each, and that none reaches itself
+-- of the blocks that stand by their keys: which these are, what reaches each, that none reaches itself, and that what is reached leads on
 pub record TellsWays (keys reaches reached : List ℕ) (w : ℕ) : Type 0 where
   pub live : (z : ℕ) → z < columns w → bit reached w 0 z ≡ has keys z
   pub turned : (x y : ℕ) → In x keys → In y keys → bit reached w y x ≡ bit reaches w x y
   pub loopless : (x : ℕ) → In x keys → bit reaches w x x ≡ false
+  pub onward : Onward keys (bit reaches w)
 
 -- a pair, if its two may be merged and save more than what was found; else what was found
 abbrev pub better_pair : List Bool → List ℕ → List ℕ → ℕ → List ℕ → Option (ℕ × ℕ) → ℕ → ℕ → Option (ℕ × ℕ)

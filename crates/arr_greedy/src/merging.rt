@@ -205,14 +205,14 @@ fn one_turn(
     ensures saved_size { IfOk result (λ done. length saved.new ≡ width * width) }
     ensures bounds_size { IfOk result (λ done. length bounds.new ≡ width) }
     ensures fuses { AreFlags fuses.new width (fuses_after (flag fuses.old width) left right) }
-    ensures reaches { ReachesAfter reaches.old reaches.new width left right }
+    ensures reaches { ReachesAfter keys.old.items reaches.old reaches.new width left right }
     ensures ways { IfOk result (λ done. TellsWays keys.new.items reaches.new reached.new width) }
     ensures priced { IfOk result (λ done. ArePriced costs.now blocks.new.items fuses.new reaches.new keys.new.items saved.new bounds.new width left 0) }
     ensures stays { IfOk result (λ done. PricesStay costs.now blocks.new.items fuses.new reaches.new saved.old bounds.old saved.new bounds.new width) }
 {
     fuse_rows(fuses, width, left, right);
-    reach_rows(reaches, width, left, right);
-    reach_rows(reached, width, left, right);
+    reach_rows(reaches, keys.as_slice(), width, left, right);
+    reach_rows(reached, keys.as_slice(), width, left, right);
     put_bit(reached, width, 0, right, false);
     join(alloc, costs, blocks, left, right)?;
     drop_key(keys, right);

@@ -124,7 +124,7 @@ loop-turn-preserved c =
       kept = t.kept;
       priced = priced_after list c.loop-turn.blocks.items c.one_turn.new.blocks.items c.loop-turn.fuses c.one_turn.new.fuses c.loop-turn.reaches c.one_turn.new.reaches
           c.loop-turn.keys.items c.one_turn.new.keys.items c.loop-turn.saved c.one_turn.new.saved c.next_pair.new.bounds c.one_turn.new.bounds w x y
-          (ap (all_pairs nat_lt) t.keys_are ∙ keys_rise after t.kept.rising) i.keys_in (subst (All (λ k. 0 < k)) (sym i.keys) (keys_positive list blocks i.kept.partition)) t.first_in t.apart o.keys o.fuses o.reaches t.stays
+          (ap (all_pairs nat_lt) t.keys_are ∙ keys_rise after t.kept.rising) i.keys_in t.first_in t.apart o.keys o.fuses o.reaches t.stays
           (λ p m q. ((i.priced p m q).0, bounded p m q)) o.priced o.stays;
       same = sym (t.goes_on n) ∙ ap (λ m. greedy_within m list blocks) e ∙ i.same;
     }
