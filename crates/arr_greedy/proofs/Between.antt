@@ -28,55 +28,79 @@ same_bool false false f g = refl
 pub has_key : (keys : List ℕ) (z : ℕ) → In z keys → has keys z ≡ true
 has_key keys z i = any_there (nat_eq z) keys z i (eq-eqb z z refl)
 
-pub between_is : (keys reaches reached : List ℕ) (w a b : ℕ) → All (λ k. k < w) keys → TellsWays keys reaches reached w → In a keys → In b keys
-    → any_below (stands_between (bit reaches w) (bit reached w) a b) (columns w) ≡ list_any (lies_between (λ k. k) (bit reaches w) a b) keys
-between_is keys reaches reached w a b inside ways ia ib =
-    same_bool (any_below (stands_between R T a b) (columns w)) (list_any (lies_between (λ k. k) R a b) keys) forth back
+or_turned : (s t : Bool) → (s || t) ≡ (t || s)
+or_turned true true = refl
+or_turned true false = refl
+or_turned false true = refl
+or_turned false false = refl
+
+module _ (keys reaches reached : List ℕ) (w a b : ℕ) (inside : All (λ k. k < w) keys) (ways : TellsWays keys reaches reached w) (ia : In a keys) (ib : In b keys) where
+  abbrev R : ℕ → ℕ → Bool
+  R = bit reaches w
+
+  abbrev T : ℕ → ℕ → Bool
+  T = bit reached w
+
+  none : (k : ℕ) → In k keys → R k k ≡ true → ⊥
+  none k i e = false≢true (sym (ways.loopless k i) ∙ e)
+
+  by_third : (x z y : ℕ) → In x keys → In z keys → In y keys → (R x z && R z y) ≡ true → R x y ≡ true
+  by_third x z y ix iz iy e = let p = and_parts (R x z) (R z y) e in ways.onward x z y ix iz iy p.0 p.1
+
+  -- one reaches the other: a third stands between them where it stands on a way from the one to the other
+  pub between_is : R a b ≡ true → any_below (stands_between R T a b) (columns w) ≡ list_any (lies_between (λ k. k) R a b) keys
+  between_is leads = same_bool (any_below (stands_between R T a b) (columns w)) (list_any (lies_between (λ k. k) R a b) keys) forth back
+    where
+      same : (z : ℕ) → In z keys → (R a z && T b z) ≡ (R a z && R z b)
+      same z i = ap (λ t. R a z && t) (ways.turned z b i ib)
+
+      forth : any_below (stands_between R T a b) (columns w) ≡ true → list_any (lies_between (λ k. k) R a b) keys ≡ true
+      forth e =
+          let r = below_found (stands_between R T a b) (columns w) e in
+          let z : ℕ = r.0 in
+          let p = and_parts (R a z && T b z) (T 0 z) r.2 in
+          let i : In z keys = in_has keys z (sym (ways.live z r.1) ∙ p.1) in
+          let h : (R a z && R z b) ≡ true = sym (same z i) ∙ p.0 in
+          let q = and_parts (R a z) (R z b) h in
+          any_there (lies_between (λ k. k) R a b) keys z i
+          (ap₂ (λ s t. not (s || t) && ((R a z && R z b) || (R b z && R z a))) (ne_eqb z a (λ f. none a ia (ap (R a) (sym f) ∙ q.0))) (ne_eqb z b (λ f. none b ib (ap (λ k. R k b) (sym f) ∙ q.1)))
+          ∙ or_left (R a z && R z b) (R b z && R z a) h)
+
+      back : list_any (lies_between (λ k. k) R a b) keys ≡ true → any_below (stands_between R T a b) (columns w) ≡ true
+      back e =
+          let r = any_found (lies_between (λ k. k) R a b) keys e in
+          let z : ℕ = r.0 in
+          let p = and_parts (not (z == a || z == b)) ((R a z && R z b) || (R b z && R z a)) r.2 in
+          let m : z < w = in_below keys w inside z r.1 in
+          let h : (R a z && R z b) ≡ true = elim (or_cases (R a z && R z b) (R b z && R z a) p.1) as (λ _. (R a z && R z b) ≡ true) [
+            | inl f ↦ f
+            | inr f ↦ absurd (none a ia (ways.onward a b a ia ib ia leads (by_third b z a ib r.1 ia f)))
+          ] in
+          below_some (stands_between R T a b) (columns w) z (omega arith) (and_from (R a z && T b z) (T 0 z) (same z r.1 ∙ h) (ways.live z (omega arith) ∙ has_key keys z r.1))
+
+  -- neither reaches the other: none stands between
+  pub between_none : R a b ≡ false → R b a ≡ false → list_any (lies_between (λ k. k) R a b) keys ≡ false
+  between_none e f = same_bool (list_any (lies_between (λ k. k) R a b) keys) false found (λ g. absurd (false≢true g))
+    where
+      found : list_any (lies_between (λ k. k) R a b) keys ≡ true → false ≡ true
+      found g =
+          let r = any_found (lies_between (λ k. k) R a b) keys g in
+          let z : ℕ = r.0 in
+          let p = and_parts (not (z == a || z == b)) ((R a z && R z b) || (R b z && R z a)) r.2 in
+          elim (or_cases (R a z && R z b) (R b z && R z a) p.1) as (λ _. false ≡ true) [
+            | inl h ↦ sym e ∙ by_third a z b ia r.1 ib h
+            | inr h ↦ sym f ∙ by_third b z a ib r.1 ia h
+          ]
+
+-- between two, told in the other order
+pub between_turned : (R : ℕ → ℕ → Bool) (keys : List ℕ) (a b : ℕ) → list_any (lies_between (λ k. k) R b a) keys ≡ list_any (lies_between (λ k. k) R a b) keys
+between_turned R keys a b = same_bool (list_any (lies_between (λ k. k) R b a) keys) (list_any (lies_between (λ k. k) R a b) keys) (over a b) (over b a)
   where
-    R : ℕ → ℕ → Bool
-    R = bit reaches w
-
-    T : ℕ → ℕ → Bool
-    T = bit reached w
-
-    same : (z : ℕ) → In z keys → ((R a z && T b z) || (R b z && T a z)) ≡ ((R a z && R z b) || (R b z && R z a))
-    same z i = ap₂ (λ s t. (R a z && s) || (R b z && t)) (ways.turned z b i ib) (ways.turned z a i ia)
-
-    loops : (k z : ℕ) → In k keys → z ≡ k → R k z ≡ false
-    loops k z i e = ap (R k) e ∙ ways.loopless k i
-
-    looped : (k z : ℕ) → In k keys → z ≡ k → R z k ≡ false
-    looped k z i e = ap (λ j. R j k) e ∙ ways.loopless k i
-
-    none : (p q s t : Bool) → (p ≡ false) → (t ≡ false) → ((p && q) || (s && t)) ≡ true → ⊥
-    none true q s t f g e = false≢true (sym f)
-    none false q true true f g e = false≢true (sym g)
-    none false q true false f g e = false≢true e
-    none false q false t f g e = false≢true e
-
-    others : (p q s t : Bool) → (q ≡ false) → (s ≡ false) → ((p && q) || (s && t)) ≡ true → ⊥
-    others p true s t f g e = false≢true (sym f)
-    others p false true t f g e = false≢true (sym g)
-    others true false false t f g e = false≢true e
-    others false false false t f g e = false≢true e
-
-    forth : any_below (stands_between R T a b) (columns w) ≡ true → list_any (lies_between (λ k. k) R a b) keys ≡ true
-    forth e =
-        let r = below_found (stands_between R T a b) (columns w) e in
+    over : (x y : ℕ) → list_any (lies_between (λ k. k) R y x) keys ≡ true → list_any (lies_between (λ k. k) R x y) keys ≡ true
+    over x y e =
+        let r = any_found (lies_between (λ k. k) R y x) keys e in
         let z : ℕ = r.0 in
-        let p = and_parts ((R a z && T b z) || (R b z && T a z)) (T 0 z) r.2 in
-        let i : In z keys = in_has keys z (sym (ways.live z r.1) ∙ p.1) in
-        let h : ((R a z && R z b) || (R b z && R z a)) ≡ true = sym (same z i) ∙ p.0 in
-        any_there (lies_between (λ k. k) R a b) keys z i
-        (ap₂ (λ s t. not (s || t) && ((R a z && R z b) || (R b z && R z a))) (ne_eqb z a (λ f. none (R a z) (R z b) (R b z) (R z a) (loops a z ia f) (looped a z ia f) h)) (ne_eqb z b (λ f. others (R a z) (R z b) (R b z) (R z a) (looped b z ib f) (loops b z ib f) h)) ∙ h)
-
-    back : list_any (lies_between (λ k. k) R a b) keys ≡ true → any_below (stands_between R T a b) (columns w) ≡ true
-    back e =
-        let r = any_found (lies_between (λ k. k) R a b) keys e in
-        let z : ℕ = r.0 in
-        let p = and_parts (not (z == a || z == b)) ((R a z && R z b) || (R b z && R z a)) r.2 in
-        let m : z < w = in_below keys w inside z r.1 in
-        below_some (stands_between R T a b) (columns w) z (omega arith) (and_from ((R a z && T b z) || (R b z && T a z)) (T 0 z) (same z r.1 ∙ p.1) (ways.live z (omega arith) ∙ has_key keys z r.1))
+        any_there (lies_between (λ k. k) R x y) keys z r.1 (ap₂ (λ s t. not s && t) (or_turned (z == x) (z == y)) (or_turned (R x z && R z y) (R y z && R z x)) ∙ r.2)
 
 -- ---- at the start, and after a merge
 

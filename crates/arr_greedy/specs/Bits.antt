@@ -1,5 +1,5 @@
 -- Tables of flags as bits, some words of 64 a row.
-use Rattle.std.specs.Prelude.{ℕ, ◌≡◌, ◌<◌, ◌+◌, ◌*◌, ◌/◌, ◌%◌, List, Bool, ◌&&◌, ◌||◌, get_or}
+use Rattle.std.specs.Prelude.{ℕ, ◌≡◌, ◌<◌, ◌+◌, ◌*◌, ◌/◌, ◌%◌, List, Bool, ◌&&◌, get_or}
 use Rattle.arr_cost.specs.Footprints.{has_bit}
 use Rattle.arr_greedy.specs.Fast.{any_below}
 
@@ -18,14 +18,14 @@ bit rows w x y = has_bit (get_or rows (x * words w + y / 64) 0) (y % 64)
 abbrev pub AreBits : List ℕ → ℕ → (ℕ → ℕ → Bool) → Type 0
 AreBits rows w test = (x y : ℕ) → x < w → y < columns w → bit rows w x y ≡ test x y
 
--- a third that stands is on a way between two, told what each reaches and what reaches each; row 0 of the latter has those that stand
+-- a third that stands is on a way from one to another, told what each reaches and what reaches each; row 0 of the latter has those that stand
 abbrev pub stands_between : (ℕ → ℕ → Bool) → (ℕ → ℕ → Bool) → ℕ → ℕ → ℕ → Bool
-stands_between reaches reached a b z = ((reaches a z && reached b z) || (reaches b z && reached a z)) && reached 0 z
+stands_between reaches reached a b z = (reaches a z && reached b z) && reached 0 z
 
--- some stands between two
+-- some stands on a way from one to another
 abbrev pub some_stands : List ℕ → List ℕ → ℕ → ℕ → ℕ → Bool
 some_stands reaches reached w a b = any_below (stands_between (bit reaches w) (bit reached w) a b) (columns w)
 
--- a word has a bit for each of those of its 64 that stand between two
+-- a word has a bit for each of those of its 64 that stand on such a way
 abbrev pub AreBetween : List ℕ → List ℕ → ℕ → ℕ → ℕ → ℕ → ℕ → Type 0
 AreBetween reaches reached w a b index word = (z : ℕ) → z / 64 ≡ index → has_bit word (z % 64) ≡ stands_between (bit reaches w) (bit reached w) a b z

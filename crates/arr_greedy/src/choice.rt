@@ -8,7 +8,7 @@ ghost use Rattle.arr_greedy.specs.Bits.{AreBetween, bit, some_stands, words};
 ghost use Rattle.arr_greedy.specs.Fast.{amount, better, flag, found_below, may_beat, next_pair, saves_more};
 ghost use Rattle.arr_greedy.specs.Tables.{Bounded, IsBetter, SaysMerges, TellsWays, best_at, best_in_row};
 
-use crate::grid::words;
+use crate::grid::{has, words};
 
 /// The flag of a row and a column.
 pub(crate) fn at(rows: &[bool], width: usize, row: usize, column: usize) -> bool
@@ -30,44 +30,42 @@ fn amount_at(rows: &[u64], width: usize, row: usize, column: usize) -> u64
     rows[row * width + column]
 }
 
-/// Of a word of blocks those that stand on a way between two, told what each block reaches and what reaches it.
+/// Of a word of blocks those that stand on a way from one to another, told what each block reaches and what reaches it.
 fn between(
     reaches: &[u64],
     reached: &[u64],
     width: usize,
-    left: usize,
-    right: usize,
+    from: usize,
+    to: usize,
     index: usize,
 ) -> u64
-    requires left_in { left < width }
-    requires right_in { right < width }
+    requires from_in { from < width }
+    requires to_in { to < width }
     requires index_in { index < words width }
     requires reaches_size { length reaches.now ≡ width * words width }
     requires reached_size { length reached.now ≡ width * words width }
-    ensures { AreBetween reaches.now reached.now width left right index result }
+    ensures { AreBetween reaches.now reached.now width from to index result }
 {
-    let first = left * words(width) + index;
-    let second = right * words(width) + index;
-    (reaches[first] & reached[second] | reaches[second] & reached[first]) & reached[index]
+    reaches[from * words(width) + index] & reached[to * words(width) + index] & reached[index]
 }
 
-/// Whether some block stands on a way between two.
-fn some_stands(reaches: &[u64], reached: &[u64], width: usize, left: usize, right: usize) -> bool
-    requires left_in { left < width }
-    requires right_in { right < width }
+/// Whether some block stands on a way from one to another.
+fn some_stands(reaches: &[u64], reached: &[u64], width: usize, from: usize, to: usize) -> bool
+    requires from_in { from < width }
+    requires to_in { to < width }
     requires reaches_size { length reaches.now ≡ width * words width }
     requires reached_size { length reached.now ≡ width * words width }
-    ensures { result ≡ some_stands reaches.now reached.now width left right }
+    ensures { result ≡ some_stands reaches.now reached.now width from to }
 {
     for index in 0..words(width) {
-        if between(reaches, reached, width, left, right, index) != 0 {
+        if between(reaches, reached, width, from, to, index) != 0 {
             return true;
         }
     }
     false
 }
 
-/// Whether two blocks may be merged.
+/// Whether two blocks may be merged: not where one reaches the other by a third. Where neither reaches the other no third stands between.
 pub(crate) fn may_merge(
     fuses: &[bool],
     reaches: &[u64],
@@ -83,7 +81,16 @@ pub(crate) fn may_merge(
     requires reached_size { length reached.now ≡ width * words width }
     ensures { SaysMerges fuses.now reaches.now reached.now width left right result }
 {
-    at(fuses, width, left, right) && !some_stands(reaches, reached, width, left, right)
+    if !at(fuses, width, left, right) {
+        return false;
+    }
+    if has(reaches, width, left, right) {
+        return !some_stands(reaches, reached, width, left, right);
+    }
+    if has(reaches, width, right, left) {
+        return !some_stands(reaches, reached, width, right, left);
+    }
+    true
 }
 
 /// Whether a pair saves more than the one found so far.

@@ -9,7 +9,7 @@ use Rattle.arr_greedy.proofs.choice.some_stands.Goals as goal
 pub returns-then-between-ne0 : goal.returns-then-between-ne0
 returns-then-between-ne0 c =
     let a = c.args in
-    let test : ℕ → Bool = stands_between (bit a.reaches.now a.width) (bit a.reached.now a.width) a.left a.right in
+    let test : ℕ → Bool = stands_between (bit a.reaches.now a.width) (bit a.reached.now a.width) a.from a.to in
     let index : ℕ = c.loop-index.index in
     let small : c.between.result < 2 ^ 64 = search rules in
     let r = some_bit c.between.result c.if-between-ne0.true small in
@@ -24,7 +24,7 @@ returns-then-between-ne0 c =
 pub loop-index-preserved : goal.loop-index-preserved
 loop-index-preserved c =
     let a = c.args in
-    let test : ℕ → Bool = stands_between (bit a.reaches.now a.width) (bit a.reached.now a.width) a.left a.right in
+    let test : ℕ → Bool = stands_between (bit a.reaches.now a.width) (bit a.reached.now a.width) a.from a.to in
     let index : ℕ = c.loop-index.index in
     let zero : c.between.result ≡ 0 = search rules in
     below_none test (64 * (index + 1)) (λ z l. elim (cases_lt z (64 * index)) as (λ _. test z ≡ false) [
