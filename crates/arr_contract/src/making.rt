@@ -9,6 +9,7 @@ ghost use Rattle.arr_ops.specs.Ops.{walked};
 ghost use Rattle.arr_strips.specs.Blocks.{block_positions, is_block};
 ghost use Rattle.arr_strips.specs.Registers.{register_views};
 ghost use Rattle.arr_lanes.specs.Lanes.{IsLane};
+ghost use Rattle.arr_machine.specs.Lent.{is_lent, leaves};
 ghost use Rattle.arr_machine.specs.Machines.{IsMachineOf};
 ghost use Rattle.arr_machine.specs.Ports.{ArePorts};
 ghost use Rattle.arr_contract.specs.Making.{HasLane, IsWalked};
@@ -24,12 +25,16 @@ use arr_lanes::Spares;
 use arr_machine::{Machine, Port};
 use arr_num::Elem;
 use arr_ops::{Op, array_view};
+use arr_overlap::identical;
 use arr_rows::Rows;
 use arr_view::View;
 use std::alloc::Global;
 
 /// How many bytes of numbers a lane holds at most.
 const LANE_BYTES: usize = 4096;
+
+/// How many numbers a row has at least that strips end with.
+const LONG_ROW: u32 = 512;
 
 /// How many positions an operation walks; `None` for FREE.
 fn walked_positions(op: &Op) -> Option<u32>
@@ -91,23 +96,59 @@ fn room_of(ops: &[Op], positions: u32) -> usize
     room.max(1)
 }
 
+/// Whether an operation neither writes nor shows a view, or one that is identical to it.
+fn leaves(op: &Op, view: &View) -> bool
+    ensures { result ≡ leaves op.now view.now }
+{
+    if let Some(out) = &op.out {
+        if identical(view, out) {
+            return false;
+        }
+    }
+    if op.slot.is_none() {
+        return true;
+    }
+    match op.first_view() {
+        Some(shown) => !identical(view, shown),
+        None => true,
+    }
+}
+
+/// Whether a view may be read where it stands: no operation of a block writes or shows it.
+fn is_lent(ops: &[Op], view: &View) -> bool
+    ensures { result ≡ is_lent ops.now view.now }
+{
+    ops.iter().all(|op| leaves(op, view))
+}
+
+/// How many positions a strip has at most, so that it ends where rows do: the fewest of the long rows of views that may be read where they
+/// stand, else as many as the block has positions.
+fn row_of(ports: &[Port], positions: u32) -> usize
+    ensures { 1 ≤ result }
+{
+    let mut row = positions.max(1);
+    for port in ports {
+        let length = port.rows.row_length();
+        if port.is_lent && length >= LONG_ROW {
+            row = row.min(length);
+        }
+    }
+    row as usize
+}
+
 /// Views with their registers.
-fn ports_of(
-    alloc: Global,
-    _ops: &[Op],
-    views: &[View],
-    some: &[View],
-) -> Result<Vec<Port>, NoMemory>
-    requires views { views.now ≡ register_views _ops.now }
+fn ports_of(alloc: Global, ops: &[Op], views: &[View], some: &[View]) -> Result<Vec<Port>, NoMemory>
+    requires views { views.now ≡ register_views ops.now }
     requires few { length views.now ≤ 768 }
-    requires walked { AllByRecursion (IsWalked _ops.now) some.now }
-    ensures { IfOk result (λ ports. ArePorts _ops.now some.now ports.items) }
+    requires walked { AllByRecursion (IsWalked ops.now) some.now }
+    ensures { IfOk result (λ ports. ArePorts ops.now some.now ports.items) }
 {
     let mut ports = Vec::new(alloc);
     for view in some {
         ports.push(Port {
             rows: Rows::of(view),
             lane: number_in(views, view) as u32,
+            is_lent: is_lent(ops, view),
         })?;
     }
     Ok(ports)
@@ -126,14 +167,17 @@ pub(crate) fn machine_of(alloc: Global, ops: &[Op], views: &[View]) -> Result<Ma
     let room = room_of(ops, positions);
     let lanes = lanes_of(alloc, ops, views, room)?;
     let tasks = tasks_of(alloc, ops, views, lanes.as_slice(), room)?;
-    let reads = block_reads(alloc, ops)?;
+    let read_views = block_reads(alloc, ops)?;
+    let reads = ports_of(alloc, ops, views, read_views.as_slice())?;
     let stores = stored_views(alloc, ops)?;
     Ok(Machine {
         positions,
         room,
         tasks,
-        reads: ports_of(alloc, ops, views, reads.as_slice())?,
         stores: ports_of(alloc, ops, views, stores.as_slice())?,
+        row: row_of(reads.as_slice(), positions),
+        reads,
+        places: vec![in alloc; None; lanes.len()]?,
         lanes,
         spares: Spares::new(alloc, room)?,
     })
@@ -184,6 +228,8 @@ fn one_lane(alloc: Global, ty: Elem) -> Result<Machine, NoMemory>
         tasks: Vec::new(alloc),
         reads: Vec::new(alloc),
         stores: Vec::new(alloc),
+        row: 1,
+        places: Vec::new(alloc),
         lanes,
         spares: Spares::new(alloc, 0)?,
     })

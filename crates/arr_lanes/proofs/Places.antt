@@ -1,12 +1,14 @@
 -- Lanes, one at a time.
-use Rattle.std.proofs.Common.{◌≡◌, ◌≢◌, ℕ, suc, zero, ◌<◌, ℤ, List, [], ◌∷◌, true, false, cond, refl, ap, sym, ◌∙◌, subst, arith, length, get_or, map, slice_get, slice_set, Some}
+use Rattle.std.proofs.Common.{◌≡◌, ◌≢◌, ℕ, suc, zero, ◌<◌, ℤ, List, [], ◌∷◌, true, false, cond, refl, ap, sym, ◌∙◌, subst, arith, length, get_or, map, slice_get, slice_set, Option, Some, None}
 use Rattle.std.proofs.lemmas.Bool.{eqb-true, eqb-false}
 use Rattle.std.proofs.lemmas.Option.{slice_get-get_or}
 use Rattle.std.specs.Prelude.{◌==◌}
 use Rattle.std.specs.List.{AllByRecursion}
 use Rattle.arr_num.specs.declared.elem.Elem.{Elem}
 use Rattle.arr_store.specs.declared.buffer.Buffer.{Buffer}
-use Rattle.arr_lanes.specs.Lanes.{Becomes, IsLane, lane_number, number}
+use Rattle.arr_ops.specs.Memory.{Cell}
+use Rattle.arr_lanes.specs.declared.strip.Place.{Place}
+use Rattle.arr_lanes.specs.Lanes.{Becomes, IsLane, PlaceFits, PlacesFit, held, held_at}
 
 pub same_numbers : (xs : List ℤ) → map (λ z. z) xs ≡ xs
 same_numbers [] = refl
@@ -52,11 +54,21 @@ lane_stays t u room count dest r wanted old new was b h =
     one_type (Some l) x y = sym x.0 ∙ y.0
     one_type Rattle.std.specs.Prelude.None x y = absurd x
 
--- every register after a line
-pub becomes_number : (t : Elem) (room count dest : ℕ) (wanted : ℕ → ℤ) (old new : List Buffer) → Becomes t room count dest wanted old new → (r i : ℕ) → i < count
-    → number new r i ≡ cond (dest == r) (wanted i) (number old r i)
-becomes_number t room count dest wanted old new b r i l =
-    elim (dest == r) as (λ z. (dest == r) ≡ z → number new r i ≡ cond z (wanted i) (number old r i)) [
-      | true ↦ λ e. ap (λ q. number new q i) (sym (eqb-true dest r e)) ∙ b.numbers i l
-      | false ↦ λ e. ap (λ o. lane_number o i) (b.others r (eqb-false dest r e))
-    ] refl
+module _ (t : Elem) (room count dest : ℕ) (wanted : ℕ → ℤ) (old new : List Buffer) (places : List (Option Place)) (f : ℕ → Option Cell) (b : Becomes t room count dest wanted old new) (own : get_or places dest None ≡ None) where
+  -- every register after a line whose own lane is not read elsewhere
+  pub becomes_held : (r i : ℕ) → i < count → held new places f r i ≡ cond (dest == r) (wanted i) (held old places f r i)
+  becomes_held r i l =
+      elim (dest == r) as (λ z. (dest == r) ≡ z → held new places f r i ≡ cond z (wanted i) (held old places f r i)) [
+        | true ↦ λ e. ap (λ q. held new places f q i) (sym (eqb-true dest r e)) ∙ ap (λ o. held_at f o (slice_get new dest) i) own ∙ b.numbers i l
+        | false ↦ λ e. ap (λ o. held_at f (get_or places r None) o i) (b.others r (eqb-false dest r e))
+      ] refl
+
+  pub places_stay : (n : ℕ) → PlacesFit n old places f → PlacesFit n new places f
+  places_stay n fit =
+      record {
+        long = fit.long ∙ sym b.long;
+        each = λ r. elim (dest == r) as (λ z. (dest == r) ≡ z → PlaceFits n f (slice_get new r) (get_or places r None)) [
+          | true ↦ λ e. subst (λ q. PlaceFits n f (slice_get new q) (get_or places q None)) (eqb-true dest r e) (subst (PlaceFits n f (slice_get new dest)) (sym own) tt)
+          | false ↦ λ e. subst (λ o. PlaceFits n f o (get_or places r None)) (sym (b.others r (eqb-false dest r e))) (fit.each r)
+        ] refl;
+      }

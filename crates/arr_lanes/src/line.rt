@@ -2,16 +2,17 @@ ghost use Rattle.std.specs.Prelude.{ℕ, ◌≡◌, ◌<◌, ◌≤◌, ◌+◌,
 ghost use Rattle.arr_num.specs.Numbers.{value};
 ghost use Rattle.arr_native.specs.Entries.{entry};
 ghost use Rattle.arr_vector.specs.Sorts.{is_comparison};
-ghost use Rattle.arr_strips.specs.Registers.{line_value, ran};
-ghost use Rattle.arr_lanes.specs.Lanes.{Becomes, IsLane, LineFits, WorkFits, compares, number, registers, shown, shown_work};
+ghost use Rattle.arr_strips.specs.Registers.{line_value};
+ghost use Rattle.arr_store.specs.Stored.{cells};
+ghost use Rattle.arr_lanes.specs.Lanes.{Becomes, IsLane, LineFits, LineRan, PlacesFit, WorkFits, compares, held, registers, shown_work};
 ghost use Rattle.arr_lanes.specs.Spares.{HasRoom};
 
 use crate::fill::{fill_arithmetic, fill_comparison, fill_conversion, fill_positions, fill_power};
 use crate::lane::Lane;
 use crate::spares::Spares;
-use crate::strip::Strip;
+use crate::strip::{Place, Strip};
 use arr_num::{Code, Elem};
-use arr_store::Buffer;
+use arr_store::{Buffer, Store};
 
 /// What a line computes at each position (docs/LANGUAGE.md, "Opcodes"), from lanes by their numbers.
 #[derive(Debug, Clone, Copy)]
@@ -37,95 +38,144 @@ pub struct Line {
 }
 
 /// Runs a line at all positions of a strip.
-pub fn run_line(line: Line, lanes: &mut [Buffer], spares: &mut Spares, strip: Strip)
+pub fn run_line(
+    line: Line,
+    lanes: &mut [Buffer],
+    places: &[Option<Place>],
+    store: &Store,
+    spares: &mut Spares,
+    strip: Strip,
+)
     requires fits { LineFits strip.room lanes.old line }
     requires spares { HasRoom strip.room spares.old }
-    requires within { strip.count ≤ strip.room }
+    requires within { strip.count ≤ strip.width }
+    requires wide { strip.width ≤ strip.room }
+    requires places { PlacesFit strip.width lanes.old places.now (cells store.now) }
     requires few { strip.position + strip.count ≤ 1048576 }
-    ensures lanes { Becomes line.to strip.room strip.count line.dest
-        (λ i. line_value (strip.position + i) (registers lanes.old i) (shown line)) lanes.old lanes.new }
+    ensures lanes { LineRan strip line (held lanes.old places.now (cells store.now)) lanes.old lanes.new }
     ensures spares { HasRoom strip.room spares.new }
 {
     match line.to {
-        Elem::U8 => run_bytes(line, lanes, &mut spares.bytes, strip),
-        Elem::I32 => run_typed(line, lanes, &mut spares.words, strip),
-        Elem::I64 => run_typed(line, lanes, &mut spares.longs, strip),
-        Elem::U64 => run_typed(line, lanes, &mut spares.naturals, strip),
+        Elem::U8 => run_bytes(line, lanes, places, store, &mut spares.bytes, strip),
+        Elem::I32 => run_typed(line, lanes, places, store, &mut spares.words, strip),
+        Elem::I64 => run_typed(line, lanes, places, store, &mut spares.longs, strip),
+        Elem::U64 => run_typed(line, lanes, places, store, &mut spares.naturals, strip),
     }
 }
 
 /// Runs a line whose result is of the type u8, which a comparison may be.
-fn run_bytes(line: Line, lanes: &mut [Buffer], spare: &mut Vec<u8>, strip: Strip)
+fn run_bytes(
+    line: Line,
+    lanes: &mut [Buffer],
+    places: &[Option<Place>],
+    store: &Store,
+    spare: &mut Vec<u8>,
+    strip: Strip,
+)
     requires fits { LineFits strip.room lanes.old line }
     requires to { line.to ≡ Elem.U8 }
     requires spare { strip.room ≤ length spare.old.items }
-    requires within { strip.count ≤ strip.room }
+    requires within { strip.count ≤ strip.width }
+    requires wide { strip.width ≤ strip.room }
+    requires places { PlacesFit strip.width lanes.old places.now (cells store.now) }
     requires few { strip.position + strip.count ≤ 1048576 }
-    ensures lanes { Becomes line.to strip.room strip.count line.dest
-        (λ i. line_value (strip.position + i) (registers lanes.old i) (shown line)) lanes.old lanes.new }
+    ensures lanes { LineRan strip line (held lanes.old places.now (cells store.now)) lanes.old lanes.new }
     ensures spare { strip.room ≤ length spare.new.items }
 {
     match line.work {
         Work::Comparison(code, from, first, second) => {
-            compare_lanes(spare, lanes, code, from, first, second, strip);
+            compare_lanes(
+                spare, lanes, places, store, code, from, first, second, strip,
+            );
             put(lanes, line.dest, spare, strip);
         }
-        _ => run_typed(line, lanes, spare, strip),
+        _ => run_typed(line, lanes, places, store, spare, strip),
     }
 }
 
 /// Runs a line that is no comparison.
-fn run_typed<T: Lane>(line: Line, lanes: &mut [Buffer], spare: &mut Vec<T>, strip: Strip)
+fn run_typed<T: Lane>(
+    line: Line,
+    lanes: &mut [Buffer],
+    places: &[Option<Place>],
+    store: &Store,
+    spare: &mut Vec<T>,
+    strip: Strip,
+)
     requires fits { LineFits strip.room lanes.old line }
     requires to { line.to ≡ T.elem }
     requires work { IsTrue (not (compares line.work)) }
     requires spare { strip.room ≤ length spare.old.items }
-    requires within { strip.count ≤ strip.room }
+    requires within { strip.count ≤ strip.width }
+    requires wide { strip.width ≤ strip.room }
+    requires places { PlacesFit strip.width lanes.old places.now (cells store.now) }
     requires few { strip.position + strip.count ≤ 1048576 }
-    ensures lanes { Becomes line.to strip.room strip.count line.dest
-        (λ i. line_value (strip.position + i) (registers lanes.old i) (shown line)) lanes.old lanes.new }
+    ensures lanes { LineRan strip line (held lanes.old places.now (cells store.now)) lanes.old lanes.new }
     ensures spare { strip.room ≤ length spare.new.items }
 {
-    fill(spare, lanes, line.work, strip);
+    fill(spare, lanes, places, store, line.work, strip);
     put(lanes, line.dest, spare, strip);
 }
 
 /// What a line that is no comparison computes.
-fn fill<T: Lane>(out: &mut Vec<T>, lanes: &[Buffer], work: Work, strip: Strip)
+fn fill<T: Lane>(
+    out: &mut Vec<T>,
+    lanes: &[Buffer],
+    places: &[Option<Place>],
+    store: &Store,
+    work: Work,
+    strip: Strip,
+)
     requires fits { WorkFits strip.room lanes.now work T.elem }
     requires work { IsTrue (not (compares work)) }
     requires out { strip.room ≤ length out.old.items }
-    requires within { strip.count ≤ strip.room }
+    requires within { strip.count ≤ strip.width }
+    requires wide { strip.width ≤ strip.room }
+    requires places { PlacesFit strip.width lanes.now places.now (cells store.now) }
     requires few { strip.position + strip.count ≤ 1048576 }
     ensures length { length out.new.items ≡ length out.old.items }
     ensures each { (i : ℕ) → i < strip.count → entry T.number out.new.items i
-        ≡ line_value (strip.position + i) (registers lanes.now i) (shown_work work T.elem 0) }
+        ≡ line_value (strip.position + i) (registers (held lanes.now places.now (cells store.now)) i) (shown_work work T.elem 0) }
 {
     match work {
         Work::Arithmetic(code, first, second) => {
-            fill_arithmetic(out, lanes, code, first, second, strip)
+            fill_arithmetic(out, lanes, places, store, code, first, second, strip)
         }
         Work::Comparison(..) => unreachable!(),
-        Work::Power(first, exponent) => fill_power(out, lanes, first, exponent, strip),
-        Work::Conversion(from, first) => convert_lane(out, lanes, from, first, strip),
+        Work::Power(first, exponent) => fill_power(
+            out, lanes, places, store, first, exponent, strip,
+        ),
+        Work::Conversion(from, first) => convert_lane(
+            out, lanes, places, store, from, first, strip,
+        ),
         Work::Positions => fill_positions(out, strip),
     }
 }
 
 /// The numbers of a lane of any type, in the type `T`.
-fn convert_lane<T: Lane>(out: &mut Vec<T>, lanes: &[Buffer], from: Elem, first: u32, strip: Strip)
+fn convert_lane<T: Lane>(
+    out: &mut Vec<T>,
+    lanes: &[Buffer],
+    places: &[Option<Place>],
+    store: &Store,
+    from: Elem,
+    first: u32,
+    strip: Strip,
+)
     requires out { strip.room ≤ length out.old.items }
     requires first { IsLane from strip.room (slice_get lanes.now first) }
-    requires within { strip.count ≤ strip.room }
+    requires within { strip.count ≤ strip.width }
+    requires wide { strip.width ≤ strip.room }
+    requires places { PlacesFit strip.width lanes.now places.now (cells store.now) }
     ensures length { length out.new.items ≡ length out.old.items }
     ensures each { (i : ℕ) → i < strip.count → entry T.number out.new.items i
-        ≡ value Code.Identity T.elem (number lanes.now first i) (pos 0) }
+        ≡ value Code.Identity T.elem (held lanes.now places.now (cells store.now) first i) (pos 0) }
 {
     match from {
-        Elem::U8 => fill_conversion::<u8, T>(out, lanes, first, strip),
-        Elem::I32 => fill_conversion::<i32, T>(out, lanes, first, strip),
-        Elem::I64 => fill_conversion::<i64, T>(out, lanes, first, strip),
-        Elem::U64 => fill_conversion::<u64, T>(out, lanes, first, strip),
+        Elem::U8 => fill_conversion::<u8, T>(out, lanes, places, store, first, strip),
+        Elem::I32 => fill_conversion::<i32, T>(out, lanes, places, store, first, strip),
+        Elem::I64 => fill_conversion::<i64, T>(out, lanes, places, store, first, strip),
+        Elem::U64 => fill_conversion::<u64, T>(out, lanes, places, store, first, strip),
     }
 }
 
@@ -133,6 +183,8 @@ fn convert_lane<T: Lane>(out: &mut Vec<T>, lanes: &[Buffer], from: Elem, first: 
 fn compare_lanes(
     out: &mut Vec<u8>,
     lanes: &[Buffer],
+    places: &[Option<Place>],
+    store: &Store,
     code: Code,
     from: Elem,
     first: u32,
@@ -143,16 +195,18 @@ fn compare_lanes(
     requires code { IsTrue (is_comparison code) }
     requires first { IsLane from strip.room (slice_get lanes.now first) }
     requires second { IsLane from strip.room (slice_get lanes.now second) }
-    requires within { strip.count ≤ strip.room }
+    requires within { strip.count ≤ strip.width }
+    requires wide { strip.width ≤ strip.room }
+    requires places { PlacesFit strip.width lanes.now places.now (cells store.now) }
     ensures length { length out.new.items ≡ length out.old.items }
     ensures each { (i : ℕ) → i < strip.count → entry pos out.new.items i
-        ≡ value code Elem.U8 (number lanes.now first i) (number lanes.now second i) }
+        ≡ value code Elem.U8 (held lanes.now places.now (cells store.now) first i) (held lanes.now places.now (cells store.now) second i) }
 {
     match from {
-        Elem::U8 => fill_comparison::<u8>(out, lanes, code, first, second, strip),
-        Elem::I32 => fill_comparison::<i32>(out, lanes, code, first, second, strip),
-        Elem::I64 => fill_comparison::<i64>(out, lanes, code, first, second, strip),
-        Elem::U64 => fill_comparison::<u64>(out, lanes, code, first, second, strip),
+        Elem::U8 => fill_comparison::<u8>(out, lanes, places, store, code, first, second, strip),
+        Elem::I32 => fill_comparison::<i32>(out, lanes, places, store, code, first, second, strip),
+        Elem::I64 => fill_comparison::<i64>(out, lanes, places, store, code, first, second, strip),
+        Elem::U64 => fill_comparison::<u64>(out, lanes, places, store, code, first, second, strip),
     }
 }
 

@@ -35,6 +35,14 @@ gate_at ops vs ports k port f a l is there =
     let own : Gate ops vs k f v.0 port.lane = record { at = v.1; lane = p.lane; register = p.register; long = p.long; there = all_get (IsThere ops f) vs k v.0 below v.1 there } in
     subst (λ w. Gate ops vs k f w port.lane) (sym p.rows) own
 
+-- a port is that of its own view
+pub port_at : (ops : List Op) (vs : List Strided) (ports : List Port) (k : ℕ) (port : Port) → ArePorts ops vs ports → k < length ports → port ≡ get_or ports k port → IsPort ops port.rows port
+port_at ops vs ports k port a l is =
+    let below : k < length vs = subst (λ n. k < n) a.long l in
+    let v : (v : Strided) × (v ≡ get_or vs k v) = item_at vs k below in
+    let p : IsPort ops v.0 port = a.each k v.0 port below v.1 is in
+    subst (λ w. IsPort ops w port) (sym p.rows) p
+
 module _ (ops : List Op) (room : ℕ) (lanes : List Buffer) (typed : TypedLanes ops room lanes) (v : Strided) (r : ℕ) (is : r ≡ number_in (register_views ops) v) (on : loaded (register_views ops) v ≡ true) where
   lane_typed : IsLane (elem_of ops v.base) room (slice_get lanes r)
   lane_typed = subst (λ q. IsLane (elem_of ops v.base) room (slice_get lanes q)) (sym is) (typed v on)

@@ -7,6 +7,7 @@ pub mod Few
 pub mod Starts
 pub mod Types
 pub mod Operands
+pub mod Lent
 pub mod Lines
 pub mod Chains
 pub mod Reductions
@@ -15,6 +16,7 @@ pub mod Shows
 pub mod Rests
 pub mod Steadies
 pub mod Loads
+pub mod Brings
 pub mod Saves
 pub mod Walking
 pub mod Gates

@@ -6,18 +6,20 @@ use Rattle.std.proofs.lemmas.List.{append-nil, drop_all, take_all}
 use Rattle.arr_num.specs.Kinds.{Kind, Scan, binds_one, binds_two, counts, is_element_wise, is_reduction, is_scan, kind, scans}
 use Rattle.arr_view.specs.Strided.{Strided}
 use Rattle.arr_ops.specs.declared.op.Op.{Op}
-use Rattle.arr_ops.specs.Memory.{Slot}
+use Rattle.arr_ops.specs.Memory.{Cell, Slot}
 use Rattle.arr_store.specs.declared.buffer.Buffer.{Buffer}
-use Rattle.arr_strips.specs.Columns.{Columns, column, ends, fills}
+use Rattle.arr_strips.specs.Columns.{column, ends, fills}
 use Rattle.arr_strips.specs.Registers.{line_value, number_in, register_views}
 use Rattle.arr_strips.proofs.Sorts.{sorts}
 use Rattle.arr_strips.proofs.Values.{column_zip, zips}
 use Rattle.arr_lanes.specs.declared.line.Line.{Line}
-use Rattle.arr_lanes.specs.Lanes.{Becomes, IsLane, LineFits, number, registers, shown}
-use Rattle.arr_lanes.proofs.Places.{becomes_number, lane_stays}
-use Rattle.arr_machine.specs.Standing.{Advances, IsStripOf, Standing}
+use Rattle.arr_lanes.specs.declared.strip.Place.{Place}
+use Rattle.arr_lanes.specs.Lanes.{Becomes, IsLane, LineFits, number, shown}
+use Rattle.arr_lanes.proofs.Places.{lane_stays, places_stay}
+use Rattle.arr_machine.specs.Standing.{Advances, IsReady, IsStripOf}
 use Rattle.arr_machine.specs.Tasks.{IsLine, Steady, TypedLanes}
 use Rattle.arr_machine.proofs.Blocks.{register_below}
+use Rattle.arr_machine.proofs.Lent.{Written}
 use Rattle.arr_machine.proofs.Operands.{Behind, work_fits, work_value, zips_all}
 use Rattle.arr_machine.proofs.Steps.{inputs_on, kept_step, output_on, quiet, row_filled, row_first, row_second, shows_none, well}
 use Rattle.arr_machine.proofs.Types.{inputs_of_type, output_of_type}
@@ -49,6 +51,18 @@ module _ (ops : List Op) (t : _) (room count dest : ℕ) (wanted : ℕ → ℤ) 
 
   pub typed_one : TypedLanes ops room old → TypedLanes ops room new
   typed_one typed v on = steady_one.types _ (number_in (register_views ops) v) (typed v on)
+
+  pub ready_one : (width : ℕ) (places : List (Option Place)) (f : ℕ → Option Cell) (xs : List ℤ) → get_or places dest None ≡ None → IsReady ops count width room old places f xs → IsReady ops count width room new places f xs
+  ready_one width places f xs own r =
+      record {
+        typed = typed_one r.typed;
+        placed = places_stay t room count dest wanted old new places f b own width r.placed;
+        own = r.own;
+        within = r.within;
+        wide = r.wide;
+        long = r.long;
+        kept = r.kept;
+      }
 
 module _ (ops : List Op) (p c room : ℕ) (t : IsStripOf ops p c room) (k : ℕ) (op : Op) (l : k < length ops) (e : op ≡ get_or ops k op) (line : Line) (lanes : List Buffer)
     (task : IsLine ops room lanes op line) (typed : TypedLanes ops room lanes) where
@@ -83,7 +97,7 @@ module _ (ops : List Op) (p c room : ℕ) (t : IsStripOf ops p c room) (k : ℕ)
 
   -- from registers that held something, to others that hold the line's values besides
   module _ (held now : ℕ → ℕ → ℤ) (behind : Behind ops lanes held) (is : (r i : ℕ) → i < c → now r i ≡ cond (line.dest == r) (line_value (p + i) (λ q. held q i) (shown line)) (held r i)) (xs : List ℤ) (slots : ℕ → Option Slot) where
-    pub line_held : (h : Columns) (start : ℕ → Option Slot) → Standing ops p c k h start held xs slots → Standing ops p c (k + 1) h start now xs slots
+    pub line_held : Advances ops p c k (k + 1) held xs slots now xs slots
     line_held h start s =
         record {
           row = row_filled ops p c room t k op l e h start held xs slots s out now fill (output_on ops p c room t k op l e out out_is) number_is;
@@ -116,5 +130,5 @@ module _ (ops : List Op) (p c room : ℕ) (t : IsStripOf ops p c room) (k : ℕ)
         number_is : (r i : ℕ) → i < c → now r i ≡ cond (number_in (register_views ops) out == r) (column op (ends (take k ops) h) (p + i)) (held r i)
         number_is r i u = is r i u ∙ ap₂ (λ d z. cond (d == r) z (held r i)) dest_is (column_is i u)
 
-  pub line_stands : (new : List Buffer) → Becomes line.to room c line.dest (λ i. line_value (p + i) (registers lanes i) (shown line)) lanes new → (xs : List ℤ) (slots : ℕ → Option Slot) → Advances ops p c k (k + 1) lanes xs slots new xs slots
-  line_stands new b xs slots = line_held (number lanes) (number new) (λ r l i. refl) (becomes_number line.to room c line.dest (λ i. line_value (p + i) (registers lanes i) (shown line)) lanes new b) xs slots
+  pub dest_written : Written ops line.dest
+  dest_written = record { at = k; op = op; there = l; item = e; view = out; out = out_is; register = dest_is }

@@ -1,5 +1,5 @@
 -- Views loaded into lanes, one after another.
-use Rattle.std.proofs.Common.{◌≡◌, ℕ, zero, suc, ◌+◌, ◌*◌, ◌<◌, ◌≤◌, pos, List, [], ◌∷◌, ◌++◌, true, false, ◌||◌, Option, Some, None, length, get_or, take, refl, ap, ap₂, sym, subst, ◌∙◌, arith}
+use Rattle.std.proofs.Common.{◌≡◌, ℕ, ℤ, zero, suc, ◌+◌, ◌*◌, ◌<◌, ◌≤◌, List, [], ◌∷◌, ◌++◌, true, false, ◌||◌, Option, Some, None, length, get_or, take, refl, ap, ap₂, sym, subst, ◌∙◌, arith}
 use Rattle.std.specs.Prelude.{◌==◌, slice_get, slice_set}
 use Rattle.std.specs.List.{AllByRecursion}
 use Rattle.std.proofs.lemmas.Bool.{eqb-true, eqb-false, false≢true}
@@ -20,8 +20,10 @@ use Rattle.arr_strips.specs.Registers.{number_in, register_views}
 use Rattle.arr_strips.specs.Strips.{loaded}
 use Rattle.arr_strips.proofs.Registers.{one_number}
 use Rattle.arr_strips.proofs.Sames.{same_base, same_elements}
-use Rattle.arr_lanes.specs.Lanes.{IsLane, lane_number, number}
+use Rattle.arr_lanes.specs.declared.strip.Strip.{Strip}
+use Rattle.arr_lanes.specs.Lanes.{IsLane}
 use Rattle.arr_lanes.proofs.Places.{set_elsewhere, set_here}
+use Rattle.arr_machine.specs.Ports.{AreLoaded, Brings}
 use Rattle.arr_machine.specs.Tasks.{Steady}
 use Rattle.arr_machine.proofs.Blocks.{register_below, total_end}
 
@@ -30,8 +32,8 @@ pub same_look : (f : ℕ → Option Cell) (v w : Strided) (p : ℕ) → identica
 same_look f v w p e = ap₂ (λ b es. number_at (f b) (get_or es p 0)) (same_base v w e) (same_elements v w e)
 
 -- of the first k views that are read the lanes hold what was loaded
-abbrev pub LoadedTo : List Op → ℕ → ℕ → ℕ → (ℕ → Option Cell) → List Buffer → Type 0
-LoadedTo ops k p c f lanes = (j : ℕ) (v : Strided) → j < k → v ≡ get_or (reads ops) j v → (i : ℕ) → i < c → number lanes (number_in (register_views ops) v) i ≡ number_at (f v.base) (place_at v (p + i))
+abbrev pub LoadedTo : List Op → ℕ → Strip → (ℕ → Option Cell) → (ℕ → ℕ → ℤ) → Type 0
+LoadedTo ops k s f see = (j : ℕ) (v : Strided) → j < k → v ≡ get_or (reads ops) j v → (i : ℕ) → i < s.count → see (number_in (register_views ops) v) i ≡ number_at (f v.base) (place_at v (s.position + i))
 
 -- one lane that was loaded into
 module _ (ops : List Op) (room : ℕ) (lanes : List Buffer) (v : Strided) (on : loaded (register_views ops) v ≡ true) (lane new : Buffer) (is : slice_get lanes (number_in (register_views ops) v) ≡ Some lane)
@@ -59,45 +61,43 @@ module _ (ops : List Op) (room : ℕ) (lanes : List Buffer) (v : Strided) (on : 
         constants = λ r l. set_elsewhere lanes (number_in (register_views ops) v) new r (λ e. let b : number_in (register_views ops) v < length (register_views ops) = register_below ops v on in absurd (omega arith));
       }
 
-  pub loaded_more : (k p c : ℕ) (f : ℕ → Option Cell) → v ≡ get_or (reads ops) k v → k < length (reads ops)
-      → ((i : ℕ) → i < c → get_or (cell_of new).numbers i (pos 0) ≡ number_at (f v.base) (place_at v (p + i)))
-      → LoadedTo ops k p c f lanes → LoadedTo ops (k + 1) p c f (slice_set lanes (number_in (register_views ops) v) new)
-  loaded_more k p c f at below each h j w l e i u =
-      elim (number_in (register_views ops) v == number_in (register_views ops) w) as (λ z. (number_in (register_views ops) v == number_in (register_views ops) w) ≡ z
-      → number (slice_set lanes (number_in (register_views ops) v) new) (number_in (register_views ops) w) i ≡ number_at (f w.base) (place_at w (p + i))) [
-        | true ↦ λ d.
-            ap (λ q. number (slice_set lanes (number_in (register_views ops) v) new) q i) (sym (eqb-true (number_in (register_views ops) v) (number_in (register_views ops) w) d))
-            ∙ ap (λ o. lane_number o i) (set_here lanes (number_in (register_views ops) v) new there) ∙ each i u
-            ∙ same_look f v w (p + i) (sym (one_number (register_views ops) v w on) ∙ d)
-        | false ↦ λ d.
-            let ne : number_in (register_views ops) v ≡ number_in (register_views ops) w → ⊥ = eqb-false (number_in (register_views ops) v) (number_in (register_views ops) w) d in
-            ap (λ o. lane_number o i) (set_elsewhere lanes (number_in (register_views ops) v) new (number_in (register_views ops) w) ne) ∙ h j w (lower j w l e ne) e i u
-      ] refl
-    where
-      lower : (j : ℕ) (w : Strided) → j < k + 1 → w ≡ get_or (reads ops) j w → (number_in (register_views ops) v ≡ number_in (register_views ops) w → ⊥) → j < k
-      lower j w l e ne =
-          elim (j == k) as (λ z. (j == k) ≡ z → j < k) [
-            | true ↦ λ d.
-                let same : j ≡ k = eqb-true j k d in
-                absurd (ne (ap (number_in (register_views ops)) (at ∙ get_or_default (reads ops) k v w below ∙ sym (subst (λ q. w ≡ get_or (reads ops) q w) same e))))
-            | false ↦ λ d. let apart : j ≡ k → ⊥ = eqb-false j k d in omega arith
-          ] refl
+-- one view more
+pub loaded_more : (ops : List Op) (v : Strided) → loaded (register_views ops) v ≡ true → (k : ℕ) (s : Strip) (f : ℕ → Option Cell) (before after : ℕ → ℕ → ℤ) → v ≡ get_or (reads ops) k v → k < length (reads ops)
+    → Brings ops s v f before after → LoadedTo ops k s f before → LoadedTo ops (k + 1) s f after
+loaded_more ops v on k s f before after at below b h j w l e i u =
+    elim (number_in (register_views ops) v == number_in (register_views ops) w) as (λ z. (number_in (register_views ops) v == number_in (register_views ops) w) ≡ z
+    → after (number_in (register_views ops) w) i ≡ number_at (f w.base) (place_at w (s.position + i))) [
+      | true ↦ λ d.
+          ap (λ q. after q i) (sym (eqb-true (number_in (register_views ops) v) (number_in (register_views ops) w) d)) ∙ b.here i u
+          ∙ same_look f v w (s.position + i) (sym (one_number (register_views ops) v w on) ∙ d)
+      | false ↦ λ d.
+          let ne : number_in (register_views ops) v ≡ number_in (register_views ops) w → ⊥ = eqb-false (number_in (register_views ops) v) (number_in (register_views ops) w) d in
+          b.others (number_in (register_views ops) w) i ne ∙ h j w (lower ne) e i u
+    ] refl
+  where
+    lower : (number_in (register_views ops) v ≡ number_in (register_views ops) w → ⊥) → j < k
+    lower ne =
+        elim (j == k) as (λ z. (j == k) ≡ z → j < k) [
+          | true ↦ λ d.
+              let same : j ≡ k = eqb-true j k d in
+              absurd (ne (ap (number_in (register_views ops)) (at ∙ get_or_default (reads ops) k v w below ∙ sym (subst (λ q. w ≡ get_or (reads ops) q w) same e))))
+          | false ↦ λ d. let apart : j ≡ k → ⊥ = eqb-false j k d in omega arith
+        ] refl
 
 -- what was loaded of a view, it was loaded of those that are identical to it
-pub loaded_all : (ops : List Op) (p c : ℕ) (f : ℕ → Option Cell) (lanes : List Buffer) → AllByRecursion (λ v. loaded (register_views ops) v ≡ true) (reads ops) → LoadedTo ops (length (reads ops)) p c f lanes
-    → (v : Strided) → loaded (reads ops) v ≡ true → (i : ℕ) → i < c → number lanes (number_in (register_views ops) v) i ≡ number_at (f v.base) (place_at v (p + i))
-loaded_all ops p c f lanes on h v t i u = from (reads ops) on (λ j w l e. h j w l e i u) t
+pub loaded_all : (ops : List Op) (s : Strip) (f : ℕ → Option Cell) (see : ℕ → ℕ → ℤ) → AllByRecursion (λ v. loaded (register_views ops) v ≡ true) (reads ops) → LoadedTo ops (length (reads ops)) s f see → AreLoaded ops s f see
+loaded_all ops s f see on h v t i u = from (reads ops) on (λ j w l e. h j w l e i u) t
   where
-    from : (ws : List Strided) → AllByRecursion (λ v. loaded (register_views ops) v ≡ true) ws → ((j : ℕ) (w : Strided) → j < length ws → w ≡ get_or ws j w → number lanes (number_in (register_views ops) w) i ≡ number_at (f w.base) (place_at w (p + i)))
-        → loaded ws v ≡ true → number lanes (number_in (register_views ops) v) i ≡ number_at (f v.base) (place_at v (p + i))
-    from [] on g s = absurd (false≢true s)
-    from (w ∷ ws) on g s =
-        elim (identical w v) as (λ z. identical w v ≡ z → (z || loaded ws v) ≡ true → number lanes (number_in (register_views ops) v) i ≡ number_at (f v.base) (place_at v (p + i))) [
+    from : (ws : List Strided) → AllByRecursion (λ v. loaded (register_views ops) v ≡ true) ws → ((j : ℕ) (w : Strided) → j < length ws → w ≡ get_or ws j w → see (number_in (register_views ops) w) i ≡ number_at (f w.base) (place_at w (s.position + i)))
+        → loaded ws v ≡ true → see (number_in (register_views ops) v) i ≡ number_at (f v.base) (place_at v (s.position + i))
+    from [] on g some = absurd (false≢true some)
+    from (w ∷ ws) on g some =
+        elim (identical w v) as (λ z. identical w v ≡ z → (z || loaded ws v) ≡ true → see (number_in (register_views ops) v) i ≡ number_at (f v.base) (place_at v (s.position + i))) [
           | true ↦ λ same k.
-              ap (λ q. number lanes q i) (sym (eqb-true (number_in (register_views ops) w) (number_in (register_views ops) v) (one_number (register_views ops) w v on.0 ∙ same)))
-              ∙ g 0 w (omega arith) refl ∙ same_look f w v (p + i) same
+              ap (λ q. see q i) (sym (eqb-true (number_in (register_views ops) w) (number_in (register_views ops) v) (one_number (register_views ops) w v on.0 ∙ same)))
+              ∙ g 0 w (omega arith) refl ∙ same_look f w v (s.position + i) same
           | false ↦ λ other k. from ws on.1 (λ j x l e. g (suc j) x (omega arith) e) k
-        ] refl s
+        ] refl some
 
 -- bytes, view by view
 pub widths_more : (w : Strided → ℕ) (vs : List Strided) (k c : ℕ) (v : Strided) → k < length vs → v ≡ get_or vs k v → c * total w (take (k + 1) vs) ≡ c * total w (take k vs) + c * w v

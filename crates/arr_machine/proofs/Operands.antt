@@ -148,10 +148,10 @@ module _ (ops : List Op) (room : ℕ) (lanes : List Buffer) where
       subst (λ r. IsLane t room (slice_get lanes r)) (sym s) (subst (λ y. IsLane y room (slice_get lanes (number_in (register_views ops) v))) of.0 (typed v on.0))
 
   -- what the operand of a SYNC shows
-  pub shows_number : (t : Elem) (v : Strided) (o : Option Operand) (lane i : ℕ) (row : Row) → o ≡ Some (Array v) → Stands ops room lanes t o lane
-      → AllByRecursion (λ v. number lanes (number_in (register_views ops) v) i ≡ row v) (view_of o) → number lanes lane i ≡ taken row o
-  shows_number t v o lane i row e s h =
-      ap (λ r. number lanes r i) (subst (λ x. Stands ops room lanes t x lane) e s) ∙ (subst (λ x. AllByRecursion (λ v. number lanes (number_in (register_views ops) v) i ≡ row v) (view_of x)) e h).0 ∙ ap (taken row) (sym e)
+  pub shows_number : (held : ℕ → ℕ → ℤ) (t : Elem) (v : Strided) (o : Option Operand) (lane i : ℕ) (row : Row) → o ≡ Some (Array v) → Stands ops room lanes t o lane
+      → AllByRecursion (λ v. held (number_in (register_views ops) v) i ≡ row v) (view_of o) → held lane i ≡ taken row o
+  shows_number held t v o lane i row e s h =
+      ap (λ r. held r i) (subst (λ x. Stands ops room lanes t x lane) e s) ∙ (subst (λ x. AllByRecursion (λ v. held (number_in (register_views ops) v) i ≡ row v) (view_of x)) e h).0 ∙ ap (taken row) (sym e)
 
   module _ (op : Op) (well : well_formed op ≡ true) where
     kept_operands : operands_kept (kind op.code) op ≡ true

@@ -7,7 +7,7 @@ use Rattle.arr_num.specs.Kinds.{folds, is_fold, scans}
 use Rattle.arr_num.specs.Numbers.{fold_start, value}
 use Rattle.arr_view.specs.Strided.{Strided}
 use Rattle.arr_ops.specs.declared.op.Op.{Op}
-use Rattle.arr_ops.specs.Memory.{Slot}
+use Rattle.arr_ops.specs.Memory.{Cell, Slot}
 use Rattle.arr_ops.specs.Ops.{view_of}
 use Rattle.arr_ops.specs.Traffic.{axis_length, kept_for, scratch}
 use Rattle.arr_store.specs.declared.buffer.Buffer.{Buffer}
@@ -15,7 +15,8 @@ use Rattle.arr_strips.specs.Blocks.{block_positions}
 use Rattle.arr_strips.specs.Columns.{Columns, count, ends, taken}
 use Rattle.arr_strips.specs.Registers.{number_in, register_views}
 use Rattle.arr_strips.proofs.Sorts.{sorts}
-use Rattle.arr_lanes.specs.Lanes.{IsLane, number}
+use Rattle.arr_lanes.specs.declared.strip.Place.{Place}
+use Rattle.arr_lanes.specs.Lanes.{IsLane}
 use Rattle.arr_sums.specs.Gathering.{FoldsOn}
 use Rattle.arr_sums.specs.Kept.{AreOf, ChangesWithin, kept_at}
 use Rattle.arr_machine.specs.Kept.{inner_of, kept_from, outer_of}
@@ -84,14 +85,15 @@ module _ (ops : List Op) (p c room : ℕ) (t : IsStripOf ops p c room) (k : ℕ)
       (stands_typed ops room lanes op.from op.first along.source typed on of (subst (λ o. Rattle.arr_machine.specs.Tasks.Stands ops room lanes op.from o along.source) (sym a.source.1.0) a.source.1.1))
 
   -- the numbers of its source
-  pub source_is : (h : Columns) (start : ℕ → Option Slot) (lanes : List Buffer) (xs : List ℤ) (slots : ℕ → Option Slot) → Standing ops p c k h start (number lanes) xs slots → (i : ℕ) → i < c
-      → number lanes along.source i ≡ taken (ends (take k ops) h (p + i)) op.first
-  source_is h start lanes xs slots s i u =
-      ap (λ r. number lanes r i) a.source.1.1
-      ∙ (subst (λ o. Rattle.std.specs.List.AllByRecursion (λ v. number lanes (number_in (register_views ops) v) i ≡ ends (take k ops) h (p + i) v) (view_of o)) a.source.1.0 (row_first ops p c room t k op l e h start (number lanes) xs slots s i u)).0
+  pub source_is : (h : Columns) (start : ℕ → Option Slot) (see : ℕ → ℕ → ℤ) (xs : List ℤ) (slots : ℕ → Option Slot) → Standing ops p c k h start see xs slots → (i : ℕ) → i < c
+      → see along.source i ≡ taken (ends (take k ops) h (p + i)) op.first
+  source_is h start see xs slots s i u =
+      ap (λ r. see r i) a.source.1.1
+      ∙ (subst (λ o. Rattle.std.specs.List.AllByRecursion (λ v. see (number_in (register_views ops) v) i ≡ ends (take k ops) h (p + i) v) (view_of o)) a.source.1.0 (row_first ops p c room t k op l e h start see xs slots s i u)).0
       ∙ ap (taken (ends (take k ops) h (p + i))) (sym a.source.1.0)
 
-module _ (ops : List Op) (p c room : ℕ) (t : IsStripOf ops p c room) (k : ℕ) (op : Op) (l : k < length ops) (e : op ≡ get_or ops k op) (along : Along) (lanes : List Buffer) (task : IsTask ops room lanes k op (Fold along)) (xs : List ℤ) (r : IsReady ops room lanes xs) where
+module _ (ops : List Op) (p c room : ℕ) (t : IsStripOf ops p c room) (k : ℕ) (op : Op) (l : k < length ops) (e : op ≡ get_or ops k op) (along : Along) (lanes : List Buffer) (task : IsTask ops room lanes k op (Fold along))
+    (width : ℕ) (places : List (Option Place)) (m : ℕ → Option Cell) (xs : List ℤ) (r : IsReady ops c width room lanes places m xs) where
   fold_code : is_fold op.code ≡ true
   fold_code = ap (λ q. folds q || scans q) task.0
 
@@ -132,18 +134,27 @@ module _ (ops : List Op) (p c room : ℕ) (t : IsStripOf ops p c room) (k : ℕ)
     changes : ChangesWithin op.to (kept_from ops k) (along.axis.outer * along.axis.inner) xs ys
     changes = subst (λ y. ChangesWithin y (kept_from ops k) (along.axis.outer * along.axis.inner) xs ys) task.1.elem (subst (λ n. ChangesWithin along.elem n (along.axis.outer * along.axis.inner) xs ys) task.1.kept w)
 
-    pub fold_ready : IsReady ops room lanes ys
-    fold_ready = record { typed = r.typed; long = w.long ∙ r.long; kept = typed_within ops p c room t k op l e (along.axis.outer * along.axis.inner) xs ys small changes r.kept }
-
-    pub fold_stands : FoldsOn (value along.code along.elem) along.axis.length along.axis.inner (along.axis.outer * along.axis.inner) (kept_at xs along.kept) (kept_at ys along.kept) (number lanes along.source) p 0 c
-        → (slots : ℕ → Option Slot) → Advances ops p c k (k + 1) lanes xs slots lanes ys slots
-    fold_stands folded slots h start s =
+    pub fold_ready : IsReady ops c width room lanes places m ys
+    fold_ready =
         record {
-          row = row_stays ops p c room t k op l e h start (number lanes) xs slots s (ap (λ q. cond (folds q) None op.out) task.0);
-          kept = kept_step ops p c room t k op l e h start (number lanes) xs slots s ys
+          typed = r.typed;
+          placed = r.placed;
+          own = r.own;
+          within = r.within;
+          wide = r.wide;
+          long = w.long ∙ r.long;
+          kept = typed_within ops p c room t k op l e (along.axis.outer * along.axis.inner) xs ys small changes r.kept;
+        }
+
+    pub fold_stands : (see : ℕ → ℕ → ℤ) → FoldsOn (value along.code along.elem) along.axis.length along.axis.inner (along.axis.outer * along.axis.inner) (kept_at xs along.kept) (kept_at ys along.kept) (see along.source) p 0 c
+        → (slots : ℕ → Option Slot) → Advances ops p c k (k + 1) see xs slots see ys slots
+    fold_stands see folded slots h start s =
+        record {
+          row = row_stays ops p c room t k op l e h start see xs slots s (ap (λ q. cond (folds q) None op.out) task.0);
+          kept = kept_step ops p c room t k op l e h start see xs slots s ys
               (λ j f lj ej ne i u. kept_elsewhere ops p c room t k op l e op.to (along.axis.outer * along.axis.inner) xs ys small changes j f lj ej ne i u)
               (record { sums = λ red q u. sums_are q u; carries = λ scan. absurd (true≢false (sym scan ∙ ap scans task.0)) });
-          shown = shows_none ops p c room t k op l e h start (number lanes) xs slots s no_slot;
+          shown = shows_none ops p c room t k op l e h start see xs slots s no_slot;
         }
       where
         no_slot : op.slot ≡ None
@@ -155,17 +166,17 @@ module _ (ops : List Op) (p c room : ℕ) (t : IsStripOf ops p c room) (k : ℕ)
         g : ℕ → ℤ
         g q = taken (ends (take k ops) h q) op.first
 
-        on : FoldsOn (value op.code op.to) (axis_length op) (inner_of op) (along.axis.outer * along.axis.inner) (kept_at xs (kept_from ops k)) (kept_at ys (kept_from ops k)) (number lanes along.source) p 0 c
+        on : FoldsOn (value op.code op.to) (axis_length op) (inner_of op) (along.axis.outer * along.axis.inner) (kept_at xs (kept_from ops k)) (kept_at ys (kept_from ops k)) (see along.source) p 0 c
         on =
-            subst (λ n. FoldsOn (value op.code op.to) (axis_length op) n (along.axis.outer * along.axis.inner) (kept_at xs (kept_from ops k)) (kept_at ys (kept_from ops k)) (number lanes along.source) p 0 c) task.1.inner
-            (subst (λ n. FoldsOn (value op.code op.to) n along.axis.inner (along.axis.outer * along.axis.inner) (kept_at xs (kept_from ops k)) (kept_at ys (kept_from ops k)) (number lanes along.source) p 0 c) task.1.rows
-            (subst (λ n. FoldsOn (value op.code op.to) along.axis.length along.axis.inner (along.axis.outer * along.axis.inner) (kept_at xs n) (kept_at ys n) (number lanes along.source) p 0 c) task.1.kept
-            (subst (λ y. FoldsOn (value op.code y) along.axis.length along.axis.inner (along.axis.outer * along.axis.inner) (kept_at xs along.kept) (kept_at ys along.kept) (number lanes along.source) p 0 c) task.1.elem
-            (subst (λ y. FoldsOn (value y along.elem) along.axis.length along.axis.inner (along.axis.outer * along.axis.inner) (kept_at xs along.kept) (kept_at ys along.kept) (number lanes along.source) p 0 c) task.1.code folded))))
+            subst (λ n. FoldsOn (value op.code op.to) (axis_length op) n (along.axis.outer * along.axis.inner) (kept_at xs (kept_from ops k)) (kept_at ys (kept_from ops k)) (see along.source) p 0 c) task.1.inner
+            (subst (λ n. FoldsOn (value op.code op.to) n along.axis.inner (along.axis.outer * along.axis.inner) (kept_at xs (kept_from ops k)) (kept_at ys (kept_from ops k)) (see along.source) p 0 c) task.1.rows
+            (subst (λ n. FoldsOn (value op.code op.to) along.axis.length along.axis.inner (along.axis.outer * along.axis.inner) (kept_at xs n) (kept_at ys n) (see along.source) p 0 c) task.1.kept
+            (subst (λ y. FoldsOn (value op.code y) along.axis.length along.axis.inner (along.axis.outer * along.axis.inner) (kept_at xs along.kept) (kept_at ys along.kept) (see along.source) p 0 c) task.1.elem
+            (subst (λ y. FoldsOn (value y along.elem) along.axis.length along.axis.inner (along.axis.outer * along.axis.inner) (kept_at xs along.kept) (kept_at ys along.kept) (see along.source) p 0 c) task.1.code folded))))
 
         sums_are : (q : ℕ) → q < count op → kept_at ys (kept_from ops k) q ≡ Rattle.arr_strips.specs.Sums.gathered_by op (ends (take k ops) h) (p + c) q
         sums_are q u =
             on (fold_start op.code op.to) (λ i. taken (ends (take k ops) h i) op.first)
-            (λ i v. (kept_here ops p c room t k op l e h start (number lanes) xs slots s).sums (ap folds task.0) i (subst (λ n. i < n) size_is v))
-            (λ j v. ap (number lanes along.source) (let z : 0 + j ≡ j = omega arith in z) ∙ source_is ops p c room t k op l e along task.1 fold_code h start lanes xs slots s j v)
+            (λ i v. (kept_here ops p c room t k op l e h start see xs slots s).sums (ap folds task.0) i (subst (λ n. i < n) size_is v))
+            (λ j v. ap (see along.source) (let z : 0 + j ≡ j = omega arith in z) ∙ source_is ops p c room t k op l e along task.1 fold_code h start see xs slots s j v)
             q (subst (λ n. q < n) (sym size_is) u)

@@ -13,7 +13,6 @@ use Rattle.arr_ops.specs.declared.op.Op.{Op}
 use Rattle.arr_ops.specs.Fits.{op_fits}
 use Rattle.arr_ops.specs.Formed.{well_formed}
 use Rattle.arr_ops.specs.Memory.{Memory, Slot, lengths_of, or_zero}
-use Rattle.arr_store.specs.declared.buffer.Buffer.{Buffer}
 use Rattle.arr_store.specs.Slots.{slot_number}
 use Rattle.arr_strips.specs.Blocks.{block_positions}
 use Rattle.arr_strips.specs.Columns.{Columns, column, count, ends, filled, next, taken}
@@ -25,7 +24,6 @@ use Rattle.arr_strips.proofs.Sorts.{sorts}
 use Rattle.arr_strips.proofs.Stages.{Alone}
 use Rattle.arr_strips.proofs.Sums.{gathered_same}
 use Rattle.arr_strips.proofs.Values.{Columnar}
-use Rattle.arr_lanes.specs.Lanes.{number}
 use Rattle.arr_sums.specs.Kept.{kept_at}
 use Rattle.arr_machine.specs.Kept.{OpKept, kept_from}
 use Rattle.arr_machine.specs.Shown.{show_number, shown_number}
@@ -94,10 +92,10 @@ module _ (ops : List Op) (m : Memory) (b : Block ops) (fs : AllByRecursion (λ f
           ap (λ z. show_number (take (cond z (length ops) 0) ops) h q s (slot_number (start s) q)) e ∙ ap (λ z. show_number (take (cond z (length ops) 0) ops) g q s (slot_number (start s) q)) (sym e)
 
   -- the next strip begins where its lanes hold what was loaded
-  pub strip_begins : (p c : ℕ) (h here : Columns) (start : ℕ → Option Slot) (lanes : List Buffer) (xs : List ℤ) (slots : ℕ → Option Slot) → p ≤ block_positions ops
-      → ((v : Strided) (i : ℕ) → i < c → number lanes (number_in (register_views ops) v) i ≡ here (p + i) v)
-      → Resting ops p h start xs slots → Standing ops p c 0 (joined p h here) start (number lanes) xs slots
-  strip_begins p c h here start lanes xs slots few row rest =
+  pub strip_begins : (p c : ℕ) (h here : Columns) (start : ℕ → Option Slot) (see : ℕ → ℕ → ℤ) (xs : List ℤ) (slots : ℕ → Option Slot) → p ≤ block_positions ops
+      → ((v : Strided) (i : ℕ) → i < c → see (number_in (register_views ops) v) i ≡ here (p + i) v)
+      → Resting ops p h start xs slots → Standing ops p c 0 (joined p h here) start see xs slots
+  strip_begins p c h here start see xs slots few row rest =
       let r : Resting ops p (joined p h here) start xs slots = rests_same p h (joined p h here) start xs slots few (λ q u. sym (ap (λ z. cond z (h q) (here q)) (lt-ltb q p u))) rest in
       record {
         row = λ v on i u. row v i u ∙ sym (ap (λ z. cond z (h (p + i)) (here (p + i)) v) (le-ltb (p + i) p (omega arith)));
@@ -113,8 +111,8 @@ module _ (ops : List Op) (m : Memory) (b : Block ops) (fs : AllByRecursion (λ f
       none q false = refl
 
 -- a strip ends
-pub strip_ends : (ops : List Op) (p c : ℕ) (h : Columns) (start : ℕ → Option Slot) (lanes : List Buffer) (xs : List ℤ) (slots : ℕ → Option Slot) → Standing ops p c (length ops) h start (number lanes) xs slots → Resting ops (p + c) h start xs slots
-strip_ends ops p c h start lanes xs slots s =
+pub strip_ends : (ops : List Op) (p c : ℕ) (h : Columns) (start : ℕ → Option Slot) (see : ℕ → ℕ → ℤ) (xs : List ℤ) (slots : ℕ → Option Slot) → Standing ops p c (length ops) h start see xs slots → Resting ops (p + c) h start xs slots
+strip_ends ops p c h start see xs slots s =
     record {
       kept = λ j op l e. subst (λ d. OpKept d (kept_from ops j) op (ends (take j ops) h) xs) (ap (λ z. cond z (p + c) p) (lt-ltb j (length ops) l)) (s.kept j op l e);
       shown = record {

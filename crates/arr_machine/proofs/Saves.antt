@@ -55,11 +55,11 @@ widths_alike f g (v ∷ vs) e = ap₂ (λ a b. a + b) (outline_width (g v.base) 
 -- ---- the numbers of a lane
 
 pub lane_is : (ops : List Op) (lanes : List Buffer) (p c : ℕ) (v : Strided) (lane : Buffer) → slice_get lanes (number_in (register_views ops) v) ≡ Some lane → c ≤ length (cell_of lane).numbers
-    → lane_of (lane_columns ops lanes p) v p c ≡ take c (cell_of lane).numbers
+    → lane_of (lane_columns ops (number lanes) p) v p c ≡ take c (cell_of lane).numbers
 lane_is ops lanes p c v lane there long =
     let n : length (take c (cell_of lane).numbers) ≡ c = length-take-le c (cell_of lane).numbers long in
-    let m : length (lane_of (lane_columns ops lanes p) v p c) ≡ c = length-map-range_with_len (λ q. number lanes (number_in (register_views ops) v) (q - p)) p c in
-    ext_get_or (pos 0) (lane_of (lane_columns ops lanes p) v p c) (take c (cell_of lane).numbers) (m ∙ sym n)
+    let m : length (lane_of (lane_columns ops (number lanes) p) v p c) ≡ c = length-map-range_with_len (λ q. number lanes (number_in (register_views ops) v) (q - p)) p c in
+    ext_get_or (pos 0) (lane_of (lane_columns ops (number lanes) p) v p c) (take c (cell_of lane).numbers) (m ∙ sym n)
     (λ i u.
     let l : i < c = omega arith in
     get_or-map-range_with_len (λ q. number lanes (number_in (register_views ops) v) (q - p)) p c i (p + i) (pos 0) l refl
@@ -69,7 +69,7 @@ lane_is ops lanes p c v lane there long =
 -- ---- view after view
 
 pub record StoredTo (ops : List Op) (vs : List Strided) (p c k : ℕ) (lanes : List Buffer) (old now : ℕ → Option Cell) : Type 0 where
-  pub rest : stored p c (lane_columns ops lanes p) (drop k vs) now ≡ stored p c (lane_columns ops lanes p) vs old
+  pub rest : stored p c (lane_columns ops (number lanes) p) (drop k vs) now ≡ stored p c (lane_columns ops (number lanes) p) vs old
   pub same : (b : ℕ) → outline (now b) ≡ outline (old b)
 
 pub stored_none : (ops : List Op) (vs : List Strided) (p c : ℕ) (lanes : List Buffer) (f : ℕ → Option Cell) → StoredTo ops vs p c 0 lanes f f
@@ -79,10 +79,10 @@ pub stored_more : (ops : List Op) (vs : List Strided) (p c k : ℕ) (lanes : Lis
     → slice_get lanes (number_in (register_views ops) v) ≡ Some lane → c ≤ length (cell_of lane).numbers → new ≡ put_at v.base (part v p c) (take c (cell_of lane).numbers) now
     → StoredTo ops vs p c k lanes old now → StoredTo ops vs p c (k + 1) lanes old new
 stored_more ops vs p c k lanes old now new v lane l e there long is s =
-    let put : put_at v.base (part v p c) (lane_of (lane_columns ops lanes p) v p c) now ≡ new = ap (λ xs. put_at v.base (part v p c) xs now) (lane_is ops lanes p c v lane there long) ∙ sym is in
+    let put : put_at v.base (part v p c) (lane_of (lane_columns ops (number lanes) p) v p c) now ≡ new = ap (λ xs. put_at v.base (part v p c) xs now) (lane_is ops lanes p c v lane there long) ∙ sym is in
     let cut : drop k vs ≡ v ∷ drop (k + 1) vs = drop-cons vs k v l ∙ ap₂ (λ x n. x ∷ drop n vs) (sym e) (let z : suc k ≡ k + 1 = omega arith in z) in
     record {
-      rest = ap (stored p c (lane_columns ops lanes p) (drop (k + 1) vs)) (sym put) ∙ ap (λ xs. stored p c (lane_columns ops lanes p) xs now) (sym cut) ∙ s.rest;
+      rest = ap (stored p c (lane_columns ops (number lanes) p) (drop (k + 1) vs)) (sym put) ∙ ap (λ xs. stored p c (lane_columns ops (number lanes) p) xs now) (sym cut) ∙ s.rest;
       same = λ b. ap (λ (f : ℕ → Option Cell). outline (f b)) is ∙ outline-put v.base (part v p c) (take c (cell_of lane).numbers) now b ∙ s.same b;
     }
 

@@ -24,12 +24,15 @@ use Rattle.arr_strips.specs.Columns.{ends, taken}
 use Rattle.arr_strips.specs.Registers.{register_views}
 use Rattle.arr_strips.proofs.Cells.{length-write, write-hit, write-miss}
 use Rattle.arr_strips.proofs.Sorts.{Showing as ShowingOp, sorts}
+use Rattle.arr_lanes.specs.declared.strip.Place.{Place}
 use Rattle.arr_lanes.specs.Lanes.{IsLane, lane_number, number}
 use Rattle.arr_machine.specs.declared.task.Task.TheVariants.{Show}
 use Rattle.arr_machine.specs.Shown.{Matches, Showing, SlotsMatch, frame, seen, show_number, shown_number}
+use Rattle.arr_machine.specs.Lent.{AreOwn}
 use Rattle.arr_machine.specs.Standing.{Advances, IsStripOf}
 use Rattle.arr_machine.specs.Tasks.{IsTask, TypedLanes}
 use Rattle.arr_machine.proofs.Blocks.{all_get}
+use Rattle.arr_machine.proofs.Lent.{own_shown}
 use Rattle.arr_machine.proofs.Operands.{shows_number, stands_typed}
 use Rattle.arr_machine.proofs.Steps.{inputs_on, kept_step, quiet, row_first, row_stays, seen_inside, seen_other, show_more, shows_none, well}
 use Rattle.arr_machine.proofs.Types.{inputs_of_type}
@@ -107,6 +110,11 @@ module _ (ops : List Op) (p c room : ℕ) (t : IsStripOf ops p c room) (k : ℕ)
       sorts op (well ops p c room t k op l e) (λ o fill plain. absurd (true≢false (ap Rattle.arr_num.specs.Kinds.walks (sym task.0) ∙ fill.walks_not))) (λ v s. (v, s)) (λ s. absurd (cc))
       (λ o v s. absurd (true≢false (ap folds (sym s.kind_is ∙ task.0))))
 
+  pub show_own : (places : List (Option Place)) → AreOwn ops places → get_or places r None ≡ None
+  show_own places own =
+      ap (λ q. get_or places q None) (subst (λ o. Rattle.arr_machine.specs.Tasks.Stands ops room lanes op.from o r) showing.1.first_is task.1.1)
+      ∙ own_shown ops places own k op l e slot showing.0 task.1.0 showing.1.first_is
+
   framed : frame (slots slot) ≡ Some (op.from, (lengths_of op.first, block_positions ops))
   framed = all_get (λ op. Matches (block_positions ops) op slot (slots slot)) ops k op l e (match slot) task.1.0
 
@@ -123,7 +131,7 @@ module _ (ops : List Op) (p c room : ℕ) (t : IsStripOf ops p c room) (k : ℕ)
       (all_left (λ (v : Strided). Rattle.arr_ops.specs.Costs.elem_of ops v.base ≡ op.from) (view_of op.first) (view_of op.second) (inputs_of_type ops t.types k op l e)) task.1.1
 
   module _ (lane : Buffer) (there : slice_get lanes r ≡ Some lane) (long : c ≤ length (cell_of lane).numbers) (now : ℕ → Option Slot)
-      (is : now ≡ assigned slots slot (with_slot_run (slots slot) p (pos 1) c (take c (cell_of lane).numbers))) where
+      (is : now ≡ assigned slots slot (with_slot_run (slots slot) p (pos 1) c (take c (cell_of lane).numbers))) (see : ℕ → ℕ → ℤ) (seen_there : (i : ℕ) → see r i ≡ number lanes r i) where
     here : ℕ → Option Slot
     here = assigned slots slot (with_slot_run (slots slot) p (pos 1) c (take c (cell_of lane).numbers))
 
@@ -140,12 +148,12 @@ module _ (ops : List Op) (p c room : ℕ) (t : IsStripOf ops p c room) (k : ℕ)
         Rattle.arr_ops.proofs.Pairs.All_weaker (λ f. Matches (block_positions ops) f s (slots s)) (λ f. Matches (block_positions ops) f s (now s))
         (λ f m q. ap (λ (g : ℕ → Option Slot). frame (g s)) is ∙ same_frame s ∙ m q) ops (match s)
 
-    pub show_stands : (xs : List ℤ) → Advances ops p c k (k + 1) lanes xs slots lanes xs now
+    pub show_stands : (xs : List ℤ) → Advances ops p c k (k + 1) see xs slots see xs now
     unfolding here
     show_stands xs h start s =
         record {
-          row = row_stays ops p c room t k op l e h start (number lanes) xs slots s (ap (λ z. cond z None op.out) (ap folds task.0) ∙ showing.1.no_out);
-          kept = kept_step ops p c room t k op l e h start (number lanes) xs slots s xs (λ j f lj ej ne i u. refl) (quiet ops p c room t k op l e h start (number lanes) xs slots s (ap folds task.0) (ap scans task.0) xs);
+          row = row_stays ops p c room t k op l e h start see xs slots s (ap (λ z. cond z None op.out) (ap folds task.0) ∙ showing.1.no_out);
+          kept = kept_step ops p c room t k op l e h start see xs slots s xs (λ j f lj ej ne i u. refl) (quiet ops p c room t k op l e h start see xs slots s (ap folds task.0) (ap scans task.0) xs);
           shown = subst (λ f. Showing ops (seen (length ops) p c (k + 1)) h start f) (sym is) (record {
             same = λ a. same_frame a ∙ s.shown.same a;
             numbers = λ a q. at a q;
@@ -162,8 +170,8 @@ module _ (ops : List Op) (p c room : ℕ) (t : IsStripOf ops p c room) (k : ℕ)
         column : (q : ℕ) → p ≤ q → q < p + c → get_or (take c (cell_of lane).numbers) (q - p) (pos 0) ≡ taken (ends (take k ops) h q) op.first
         column q low high =
             let u : q - p < c = omega arith in
-            get_or-take c (cell_of lane).numbers (q - p) (pos 0) u ∙ sym (lane_cell lanes r lane there (q - p))
-            ∙ shows_number ops room lanes op.from showing.0 op.first r (q - p) (ends (take k ops) h (p + (q - p))) showing.1.first_is task.1.1 (row_first ops p c room t k op l e h start (number lanes) xs slots s (q - p) u)
+            get_or-take c (cell_of lane).numbers (q - p) (pos 0) u ∙ sym (seen_there (q - p) ∙ lane_cell lanes r lane there (q - p))
+            ∙ shows_number ops room lanes see op.from showing.0 op.first r (q - p) (ends (take k ops) h (p + (q - p))) showing.1.first_is task.1.1 (row_first ops p c room t k op l e h start see xs slots s (q - p) u)
             ∙ ap (λ i. taken (ends (take k ops) h i) op.first) (let z : p + (q - p) ≡ q = omega arith in z)
 
         -- elsewhere the position has seen as much as before
@@ -199,12 +207,12 @@ module _ (ops : List Op) (p c room : ℕ) (t : IsStripOf ops p c room) (k : ℕ)
 -- ---- a FREE
 
 pub nothing_stands : (ops : List Op) (p c room : ℕ) (t : IsStripOf ops p c room) (k : ℕ) (op : Op) (l : k < length ops) (e : op ≡ get_or ops k op) → kind op.code ≡ Ending
-    → (lanes : List Buffer) (xs : List ℤ) (slots : ℕ → Option Slot) → Advances ops p c k (k + 1) lanes xs slots lanes xs slots
-nothing_stands ops p c room t k op l e free lanes xs slots h start s =
+    → (see : ℕ → ℕ → ℤ) (xs : List ℤ) (slots : ℕ → Option Slot) → Advances ops p c k (k + 1) see xs slots see xs slots
+nothing_stands ops p c room t k op l e free see xs slots h start s =
     record {
-      row = row_stays ops p c room t k op l e h start (number lanes) xs slots s (ap (λ z. cond z None op.out) (ap folds free) ∙ no_out);
-      kept = kept_step ops p c room t k op l e h start (number lanes) xs slots s xs (λ j g lj ej ne i u. refl) (quiet ops p c room t k op l e h start (number lanes) xs slots s (ap folds free) (ap scans free) xs);
-      shown = shows_none ops p c room t k op l e h start (number lanes) xs slots s no_slot;
+      row = row_stays ops p c room t k op l e h start see xs slots s (ap (λ z. cond z None op.out) (ap folds free) ∙ no_out);
+      kept = kept_step ops p c room t k op l e h start see xs slots s xs (λ j g lj ej ne i u. refl) (quiet ops p c room t k op l e h start see xs slots s (ap folds free) (ap scans free) xs);
+      shown = shows_none ops p c room t k op l e h start see xs slots s no_slot;
     }
   where
     no_out : op.out ≡ None

@@ -3,6 +3,7 @@ pub mod Needed
 pub mod Shown
 pub mod Tasks
 pub mod Chains
+pub mod Lent
 pub mod Standing
 pub mod Ports
 pub mod Machines

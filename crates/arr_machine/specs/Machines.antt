@@ -1,5 +1,5 @@
 -- What the walk of a block takes, and what it has done so far.
-use Rattle.std.specs.Prelude.{ℕ, ℤ, ◌≡◌, ◌≤◌, true, List, Option}
+use Rattle.std.specs.Prelude.{ℕ, ℤ, ◌≡◌, ◌≤◌, true, List, Option, length}
 use Rattle.arr_ops.specs.declared.op.Op.{Op}
 use Rattle.arr_ops.specs.Costs.{reads}
 use Rattle.arr_ops.specs.Fits.{fits}
@@ -19,8 +19,10 @@ use Rattle.arr_machine.specs.declared.walk.Machine.{Machine}
 pub record IsMachineOf (ops : List Op) (m : Machine) : Type 0 where
   pub positions : m.positions ≡ block_positions ops
   pub some : 1 ≤ m.room
+  pub some_row : 1 ≤ m.row
   pub tasks : AreTasks ops m.room m.lanes.items m.tasks.items
   pub typed : TypedLanes ops m.room m.lanes.items
+  pub places : length m.places.items ≡ length m.lanes.items
   pub spares : HasRoom m.room m.spares
   pub reads : ArePorts ops (reads ops) m.reads.items
   pub stores : ArePorts ops (stores ops) m.stores.items

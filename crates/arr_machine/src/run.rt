@@ -2,18 +2,19 @@
 ghost use Rattle.std.specs.Prelude.{◌≡◌, ◌+◌, ◌<◌, ◌≤◌, get_or, length};
 ghost use Rattle.arr_ops.specs.declared.op.Op.{Op};
 ghost use Rattle.arr_store.specs.Slots.{slots_of};
+ghost use Rattle.arr_store.specs.Stored.{cells};
 ghost use Rattle.arr_lanes.specs.Spares.{HasRoom};
 ghost use Rattle.arr_machine.specs.Chains.{IsSumAt, additions};
 ghost use Rattle.arr_machine.specs.Shown.{SlotsMatch};
-ghost use Rattle.arr_machine.specs.Standing.{Computes, GoesOn, IsReady, IsStripOf};
+ghost use Rattle.arr_machine.specs.Standing.{Computes, GoesOn, IsStripOf, ReadyAt};
 ghost use Rattle.arr_machine.specs.Tasks.{AreTasks, IsLine, IsTaskAt, Steady};
 
 use crate::chain::{additions, sum_at};
 use crate::folds::{fold_lane, scan_lane};
 use crate::task::Task;
-use arr_lanes::{Line, Spares, Strip, Sum, run_line, run_sum};
+use arr_lanes::{Line, Place, Spares, Strip, Sum, run_line, run_sum};
 use arr_ops::Op;
-use arr_store::{Buffer, Run, Slots};
+use arr_store::{Buffer, Run, Slots, Store};
 
 /// An element-wise operation computes its lane.
 fn compute_lane(
@@ -21,6 +22,8 @@ fn compute_lane(
     _index: usize,
     line: Line,
     lanes: &mut [Buffer],
+    places: &[Option<Place>],
+    store: &Store,
     spares: &mut Spares,
     _numbers: &[i128],
     strip: Strip,
@@ -29,14 +32,14 @@ fn compute_lane(
     requires there { _index < length _ops.now }
     requires task { (op : Op) → op ≡ get_or _ops.now _index op
         → IsLine _ops.now strip.room lanes.old op line }
-    requires ready { IsReady _ops.now strip.room lanes.old _numbers.now }
+    requires ready { ReadyAt _ops.now strip lanes.old places.now (cells store.now) _numbers.now }
     requires spares { HasRoom strip.room spares.old }
-    ensures stands { Computes _ops.now strip _index (_index + 1) lanes.old _numbers.now lanes.new _numbers.now }
-    ensures ready { IsReady _ops.now strip.room lanes.new _numbers.now }
+    ensures stands { Computes _ops.now strip places.now (cells store.now) _index (_index + 1) lanes.old _numbers.now lanes.new _numbers.now }
+    ensures ready { ReadyAt _ops.now strip lanes.new places.now (cells store.now) _numbers.now }
     ensures steady { Steady _ops.now strip.room lanes.old lanes.new }
     ensures spares { HasRoom strip.room spares.new }
 {
-    run_line(line, lanes, spares, strip);
+    run_line(line, lanes, places, store, spares, strip);
 }
 
 /// Additions that follow one another compute the lane of the last one.
@@ -46,6 +49,8 @@ fn compute_sum(
     sum: Sum,
     _tasks: &[Task],
     lanes: &mut [Buffer],
+    places: &[Option<Place>],
+    store: &Store,
     spares: &mut Spares,
     _numbers: &[i128],
     strip: Strip,
@@ -53,14 +58,14 @@ fn compute_sum(
     requires strip { IsStripOf _ops.now strip.position strip.count strip.room }
     requires tasks { AreTasks _ops.now strip.room lanes.old _tasks.now }
     requires sum { IsSumAt _tasks.now _index sum }
-    requires ready { IsReady _ops.now strip.room lanes.old _numbers.now }
+    requires ready { ReadyAt _ops.now strip lanes.old places.now (cells store.now) _numbers.now }
     requires spares { HasRoom strip.room spares.old }
-    ensures stands { Computes _ops.now strip _index (_index + additions sum) lanes.old _numbers.now lanes.new _numbers.now }
-    ensures ready { IsReady _ops.now strip.room lanes.new _numbers.now }
+    ensures stands { Computes _ops.now strip places.now (cells store.now) _index (_index + additions sum) lanes.old _numbers.now lanes.new _numbers.now }
+    ensures ready { ReadyAt _ops.now strip lanes.new places.now (cells store.now) _numbers.now }
     ensures steady { Steady _ops.now strip.room lanes.old lanes.new }
     ensures spares { HasRoom strip.room spares.new }
 {
-    run_sum(sum, lanes, spares, strip);
+    run_sum(sum, lanes, places, store, spares, strip);
 }
 
 /// A SYNC puts the lane of its input into its slot.
@@ -70,6 +75,8 @@ fn show_lane(
     slot: u32,
     lane: u32,
     lanes: &[Buffer],
+    _places: &[Option<Place>],
+    _store: &Store,
     slots: &mut Slots,
     _numbers: &[i128],
     strip: Strip,
@@ -77,9 +84,9 @@ fn show_lane(
     requires strip { IsStripOf _ops.now strip.position strip.count strip.room }
     requires there { _index < length _ops.now }
     requires task { IsTaskAt _ops.now strip.room lanes.now _index (Task.Show slot lane) }
-    requires ready { IsReady _ops.now strip.room lanes.now _numbers.now }
+    requires ready { ReadyAt _ops.now strip lanes.now _places.now (cells _store.now) _numbers.now }
     requires slots { SlotsMatch _ops.now (slots_of slots.old) }
-    ensures stands { GoesOn _ops.now strip _index (_index + 1) lanes.now _numbers.now slots.old lanes.now _numbers.now slots.new }
+    ensures stands { GoesOn _ops.now strip _places.now (cells _store.now) _index (_index + 1) lanes.now _numbers.now slots.old lanes.now _numbers.now slots.new }
     ensures slots { SlotsMatch _ops.now (slots_of slots.new) }
 {
     let run = Run {
@@ -96,6 +103,8 @@ fn run_task(
     index: usize,
     task: Task,
     lanes: &mut [Buffer],
+    places: &[Option<Place>],
+    store: &Store,
     spares: &mut Spares,
     numbers: &mut [i128],
     slots: &mut Slots,
@@ -104,24 +113,30 @@ fn run_task(
     requires strip { IsStripOf ops.now strip.position strip.count strip.room }
     requires there { index < length ops.now }
     requires task { IsTaskAt ops.now strip.room lanes.old index task }
-    requires ready { IsReady ops.now strip.room lanes.old numbers.old }
+    requires ready { ReadyAt ops.now strip lanes.old places.now (cells store.now) numbers.old }
     requires spares { HasRoom strip.room spares.old }
     requires slots { SlotsMatch ops.now (slots_of slots.old) }
-    ensures stands { GoesOn ops.now strip index (index + 1) lanes.old numbers.old slots.old lanes.new numbers.new slots.new }
-    ensures ready { IsReady ops.now strip.room lanes.new numbers.new }
+    ensures stands { GoesOn ops.now strip places.now (cells store.now) index (index + 1) lanes.old numbers.old slots.old lanes.new numbers.new slots.new }
+    ensures ready { ReadyAt ops.now strip lanes.new places.now (cells store.now) numbers.new }
     ensures steady { Steady ops.now strip.room lanes.old lanes.new }
     ensures spares { HasRoom strip.room spares.new }
     ensures slots { SlotsMatch ops.now (slots_of slots.new) }
 {
     match task {
         Task::Line(line) | Task::Link(line) => {
-            compute_lane(ops, index, line, lanes, spares, numbers, strip)
+            compute_lane(
+                ops, index, line, lanes, places, store, spares, numbers, strip,
+            )
         }
         Task::Scan(along, dest) => {
-            scan_lane(ops, index, along, dest, lanes, spares, numbers, strip)
+            scan_lane(
+                ops, index, along, dest, lanes, places, store, spares, numbers, strip,
+            )
         }
-        Task::Fold(along) => fold_lane(ops, index, along, lanes, numbers, strip),
-        Task::Show(slot, lane) => show_lane(ops, index, slot, lane, lanes, slots, numbers, strip),
+        Task::Fold(along) => fold_lane(ops, index, along, lanes, places, store, numbers, strip),
+        Task::Show(slot, lane) => show_lane(
+            ops, index, slot, lane, lanes, places, store, slots, numbers, strip,
+        ),
         Task::Nothing => {}
     }
 }
@@ -133,6 +148,8 @@ fn run_next(
     index: usize,
     tasks: &[Task],
     lanes: &mut [Buffer],
+    places: &[Option<Place>],
+    store: &Store,
     spares: &mut Spares,
     numbers: &mut [i128],
     slots: &mut Slots,
@@ -141,23 +158,27 @@ fn run_next(
     requires strip { IsStripOf ops.now strip.position strip.count strip.room }
     requires there { index < length ops.now }
     requires tasks { AreTasks ops.now strip.room lanes.old tasks.now }
-    requires ready { IsReady ops.now strip.room lanes.old numbers.old }
+    requires ready { ReadyAt ops.now strip lanes.old places.now (cells store.now) numbers.old }
     requires spares { HasRoom strip.room spares.old }
     requires slots { SlotsMatch ops.now (slots_of slots.old) }
     ensures behind { index < result }
     ensures inside { result ≤ length ops.now }
-    ensures stands { GoesOn ops.now strip index result lanes.old numbers.old slots.old lanes.new numbers.new slots.new }
-    ensures ready { IsReady ops.now strip.room lanes.new numbers.new }
+    ensures stands { GoesOn ops.now strip places.now (cells store.now) index result lanes.old numbers.old slots.old lanes.new numbers.new slots.new }
+    ensures ready { ReadyAt ops.now strip lanes.new places.now (cells store.now) numbers.new }
     ensures steady { Steady ops.now strip.room lanes.old lanes.new }
     ensures spares { HasRoom strip.room spares.new }
     ensures slots { SlotsMatch ops.now (slots_of slots.new) }
 {
     let Some(sum) = sum_at(tasks, index) else {
         let task = tasks[index];
-        run_task(ops, index, task, lanes, spares, numbers, slots, strip);
+        run_task(
+            ops, index, task, lanes, places, store, spares, numbers, slots, strip,
+        );
         return index + 1;
     };
-    compute_sum(ops, index, sum, tasks, lanes, spares, numbers, strip);
+    compute_sum(
+        ops, index, sum, tasks, lanes, places, store, spares, numbers, strip,
+    );
     index + additions(sum)
 }
 
@@ -167,6 +188,8 @@ pub fn run_tasks(
     ops: &[Op],
     tasks: &[Task],
     lanes: &mut [Buffer],
+    places: &[Option<Place>],
+    store: &Store,
     spares: &mut Spares,
     numbers: &mut [i128],
     slots: &mut Slots,
@@ -174,17 +197,19 @@ pub fn run_tasks(
 )
     requires strip { IsStripOf ops.now strip.position strip.count strip.room }
     requires tasks { AreTasks ops.now strip.room lanes.old tasks.now }
-    requires ready { IsReady ops.now strip.room lanes.old numbers.old }
+    requires ready { ReadyAt ops.now strip lanes.old places.now (cells store.now) numbers.old }
     requires spares { HasRoom strip.room spares.old }
     requires slots { SlotsMatch ops.now (slots_of slots.old) }
-    ensures stands { GoesOn ops.now strip 0 (length ops.now) lanes.old numbers.old slots.old lanes.new numbers.new slots.new }
-    ensures ready { IsReady ops.now strip.room lanes.new numbers.new }
+    ensures stands { GoesOn ops.now strip places.now (cells store.now) 0 (length ops.now) lanes.old numbers.old slots.old lanes.new numbers.new slots.new }
+    ensures ready { ReadyAt ops.now strip lanes.new places.now (cells store.now) numbers.new }
     ensures steady { Steady ops.now strip.room lanes.old lanes.new }
     ensures spares { HasRoom strip.room spares.new }
     ensures slots { SlotsMatch ops.now (slots_of slots.new) }
 {
     let mut index = 0;
     while index < tasks.len() {
-        index = run_next(ops, index, tasks, lanes, spares, numbers, slots, strip);
+        index = run_next(
+            ops, index, tasks, lanes, places, store, spares, numbers, slots, strip,
+        );
     }
 }

@@ -17,12 +17,13 @@ ghost use Rattle.arr_machine.specs.Standing.{IsStripOf};
 use crate::port::{Port, load_ports, store_ports};
 use crate::run::run_tasks;
 use crate::task::Task;
-use arr_lanes::{Spares, Strip};
+use arr_lanes::{Place, Spares, Strip};
 use arr_ops::Op;
 use arr_store::{Buffer, Slots, Store};
 
 /// What a block takes to walk its positions in strips: a task for each operation, the views that a strip loads and stores, a lane for each
-/// view and each constant, and a spare list of each type; each of these has room for `room` numbers.
+/// view and each constant, for each lane the place where its numbers are read instead, if so, and a spare list of each type; each of these
+/// has room for `room` numbers. A strip ends where a row of so many positions does.
 #[derive(Drop)]
 pub struct Machine {
     pub positions: u32,
@@ -30,11 +31,37 @@ pub struct Machine {
     pub tasks: Vec<Task>,
     pub reads: Vec<Port>,
     pub stores: Vec<Port>,
+    pub row: usize,
     pub lanes: Vec<Buffer>,
+    pub places: Vec<Option<Place>>,
     pub spares: Spares,
 }
 
 impl Machine {
+    /// The strip that begins at a position: as many positions as lanes have room for, and no more than the row has left. Loops go over a
+    /// multiple of 64 numbers where there is room, so that all of them are computed side by side.
+    fn strip_at(&self, at: usize) -> Strip
+        requires some { 1 ≤ self.now.room }
+        requires some_row { 1 ≤ self.now.row }
+        requires inside { at < self.now.positions }
+        ensures position { result.position ≡ at }
+        ensures some { 1 ≤ result.count }
+        ensures inside { at + result.count ≤ self.now.positions }
+        ensures within { result.count ≤ result.width }
+        ensures wide { result.width ≤ result.room }
+        ensures room { result.room ≡ self.now.room }
+    {
+        let left = self.positions as usize - at;
+        let count = self.room.min(left).min(self.row - at % self.row);
+        let width = count.next_multiple_of(64).min(self.room);
+        Strip {
+            position: at as u64,
+            count,
+            width,
+            room: self.room,
+        }
+    }
+
     /// One strip: it loads the views that the block reads, runs the operations, and stores the views that a walk writes.
     fn run_strip(
         &mut self,
@@ -56,6 +83,8 @@ impl Machine {
         requires slots { SlotsMatch ops.now (slots_of slots.old) }
         requires strip { IsStripOf ops.now strip.position strip.count strip.room }
         requires room { strip.room ≡ self.old.room }
+        requires within { strip.count ≤ strip.width }
+        requires wide { strip.width ≤ strip.room }
         requires loads { store.old.loads < 2 ^ 61 + 2 ^ 40 }
         requires saves { store.old.stores < 2 ^ 61 + 2 ^ 40 }
         ensures walks { WalksOn ops.now strip.position (strip.position + strip.count) store.old numbers.old slots.old store.new numbers.new slots.new }
@@ -75,6 +104,7 @@ impl Machine {
             ops,
             self.reads.as_slice(),
             self.lanes.as_mut_slice(),
+            self.places.as_mut_slice(),
             store,
             strip,
         );
@@ -82,6 +112,8 @@ impl Machine {
             ops,
             self.tasks.as_slice(),
             self.lanes.as_mut_slice(),
+            self.places.as_slice(),
+            store,
             &mut self.spares,
             numbers,
             slots,
@@ -126,11 +158,7 @@ impl Machine {
         let positions = self.positions as usize;
         let mut at = 0;
         while at < positions {
-            let strip = Strip {
-                position: at as u64,
-                count: self.room.min(positions - at),
-                room: self.room,
-            };
+            let strip = self.strip_at(at);
             self.run_strip(ops, numbers, store, slots, strip);
             at += strip.count;
         }

@@ -29,7 +29,7 @@ ports_of-requires-2-clause-few c =
 
 pub ports_of-requires-clause-walked : goal.ports_of-requires-clause-walked
 ports_of-requires-clause-walked c =
-    subst (AllByRecursion (IsWalked c.args.ops.now)) (sym (c.as_slice-2.ensures.value ∙ c.in_ok-reads.ensures)) (reads_walked c.args.ops.now (block_of c.args.ops.now c.requires.block))
+    subst (AllByRecursion (IsWalked c.args.ops.now)) (sym (c.as_slice-2.ensures.value ∙ c.in_ok-read_views.ensures)) (reads_walked c.args.ops.now (block_of c.args.ops.now c.requires.block))
 
 pub ports_of-requires-2-clause-walked : goal.ports_of-requires-2-clause-walked
 ports_of-requires-2-clause-walked c =
@@ -39,13 +39,15 @@ pub returns-clause-machine : goal.returns-clause-machine
 returns-clause-machine c =
     let lanes : map cell_of c.in_ok-lanes.lanes.items ≡ lane_cells c.args.ops.now c.room_of-room.result (register_views c.args.ops.now) = subst (λ vs. map cell_of c.in_ok-lanes.lanes.items ≡ lane_cells c.args.ops.now c.room_of-room.result vs) c.requires.views c.in_ok-lanes.ensures in
     let tasks : AreTasks c.args.ops.now c.room_of-room.result c.in_ok-lanes.lanes.items c.in_ok-tasks.tasks.items = subst (λ ls. AreTasks c.args.ops.now c.room_of-room.result ls c.in_ok-tasks.tasks.items) c.as_slice.ensures.value c.in_ok-tasks.ensures in
-    let read : ArePorts c.args.ops.now (reads c.args.ops.now) c.in_ok-ports_of.field-0.items = subst (λ vs. ArePorts c.args.ops.now vs c.in_ok-ports_of.field-0.items) (c.as_slice-2.ensures.value ∙ c.in_ok-reads.ensures) c.in_ok-ports_of.ensures in
-    let stored : ArePorts c.args.ops.now (stores c.args.ops.now) c.in_ok-ports_of-2.field-0.items = subst (λ vs. ArePorts c.args.ops.now vs c.in_ok-ports_of-2.field-0.items) (c.as_slice-3.ensures.value ∙ c.in_ok-stores.ensures) c.in_ok-ports_of-2.ensures in
+    let read : ArePorts c.args.ops.now (reads c.args.ops.now) c.in_ok-reads.reads.items = subst (λ vs. ArePorts c.args.ops.now vs c.in_ok-reads.reads.items) (c.as_slice-2.ensures.value ∙ c.in_ok-read_views.ensures) c.in_ok-reads.ensures in
+    let stored : ArePorts c.args.ops.now (stores c.args.ops.now) c.in_ok-ports_of.field-0.items = subst (λ vs. ArePorts c.args.ops.now vs c.in_ok-ports_of.field-0.items) (c.as_slice-3.ensures.value ∙ c.in_ok-stores.ensures) c.in_ok-ports_of.ensures in
     record {
       positions = c.positions_of-positions.ensures;
       some = c.room_of-room.ensures.some;
+      some_row = c.row_of.ensures;
       tasks = tasks;
       typed = lanes_typed c.args.ops.now c.room_of-room.result c.in_ok-lanes.lanes.items lanes;
+      places = omega (arith, c.in_ok-vec.ensures.len, c.len.ensures, c.in_ok-vec.field-0.ok, c.in_ok-lanes.lanes.ok);
       spares = c.in_ok-new.ensures;
       reads = read;
       stores = stored;

@@ -16,19 +16,20 @@ overflow_cast-number_in c =
 pub loop-view-preserved : goal.loop-view-preserved
 loop-view-preserved c =
     let item = c.view-item.result in
-    let walked : IsWalked c.args._ops.now item = all_get (IsWalked c.args._ops.now) c.args.some.now c.loop-view.view-index item c.loop-view-test.true c.view-item.is c.requires.walked in
+    let walked : IsWalked c.args.ops.now item = all_get (IsWalked c.args.ops.now) c.args.some.now c.loop-view.view-index item c.loop-view-test.true c.view-item.is c.requires.walked in
     record {
       long = ap length c.in_ok-push.ensures.items ∙ length-append c.loop-view.ports.items _ ∙ ap (λ n. n + 1) c.loop-view.invariant.long;
       each = λ k v port l e f.
-          each_more (λ (q : _) (w : Strided) p. IsPort c.args._ops.now w p) c.args.some.now c.loop-view.ports.items c.loop-view.view-index _ c.loop-view.invariant.long c.loop-view.invariant.each
+          each_more (λ (q : _) (w : Strided) p. IsPort c.args.ops.now w p) c.args.some.now c.loop-view.ports.items c.loop-view.view-index _ c.loop-view.invariant.long c.loop-view.invariant.each
           (λ w h.
           let same : item ≡ w = c.view-item.is ∙ get_or_default c.args.some.now c.loop-view.view-index item w c.loop-view-test.true ∙ sym h in
-          subst (λ (u : Strided). IsPort c.args._ops.now u (record { rows = c.of.result; lane = c.number_in.result })) same
+          subst (λ (u : Strided). IsPort c.args.ops.now u (record { rows = c.of.result; lane = c.number_in.result; is_lent = c.is_lent.result })) same
           (record {
             rows = c.of.ensures;
             lane = c.number_in.ensures ∙ ap (λ vs. number_in vs item) c.requires.views;
             register = walked.register;
             long = walked.long;
+            lent = c.is_lent.ensures;
           }))
           k v port l e (f ∙ ap (λ xs. get_or xs k port) c.in_ok-push.ensures.items);
     }

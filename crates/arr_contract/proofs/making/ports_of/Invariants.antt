@@ -8,5 +8,5 @@ abbrev pub invariant-loop-view : goal.invariant-loop-view
 invariant-loop-view l =
     record {
       long : length l.ports.items ≡ l.view-index;
-      each : (k : ℕ) (v : Strided) (port : Port) → k < l.view-index → v ≡ get_or l.some k v → port ≡ get_or l.ports.items k port → IsPort l._ops v port;
+      each : (k : ℕ) (v : Strided) (port : Port) → k < l.view-index → v ≡ get_or l.some k v → port ≡ get_or l.ports.items k port → IsPort l.ops v port;
     }

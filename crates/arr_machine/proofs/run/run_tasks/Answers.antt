@@ -1,5 +1,7 @@
 use Rattle.std.proofs.Common.{◌≡◌, ◌≤◌, length, subst, arith}
 use Rattle.arr_store.specs.Slots.{slots_of}
+use Rattle.arr_store.specs.Stored.{cells}
+use Rattle.arr_lanes.specs.Lanes.{held}
 use Rattle.arr_machine.specs.Standing.{Advances}
 use Rattle.arr_machine.proofs.Steadies.{steady_more, steady_none, tasks_steady}
 use Rattle.arr_machine.proofs.run.run_tasks.Goals as goal
@@ -36,5 +38,5 @@ pub returns-clause-stands : goal.returns-clause-stands
 returns-clause-stands c =
     let low : c.loop-index.index ≤ length c.args.ops.now = c.loop-index.invariant.inside in
     let all : c.loop-index.index ≡ length c.args.ops.now = omega (arith, c.requires.tasks.long, c.loop-index-test.false) in
-    subst (λ k. Advances c.args.ops.now c.args.strip.position c.args.strip.count 0 k c.args.lanes.now c.args.numbers.now (slots_of c.args.slots.now) c.loop-index.lanes c.loop-index.numbers (slots_of c.loop-index.slots)) all
+    subst (λ k. Advances c.args.ops.now c.args.strip.position c.args.strip.count 0 k (held c.args.lanes.now c.args.places.now (cells c.args.store.now)) c.args.numbers.now (slots_of c.args.slots.now) (held c.loop-index.lanes c.args.places.now (cells c.args.store.now)) c.loop-index.numbers (slots_of c.loop-index.slots)) all
     c.loop-index.invariant.stands

@@ -1,14 +1,15 @@
-use Rattle.std.proofs.Common.{◌≡◌, ◌+◌, ◌≤◌, Some, length, sym, subst, arith}
+use Rattle.std.proofs.Common.{◌≡◌, ◌+◌, ◌≤◌, Some, length, refl, ap, sym, subst, arith}
 use Rattle.std.specs.Prelude.{slice_get}
 use Rattle.arr_store.specs.Buffers.{cell_of}
 use Rattle.arr_store.specs.Runs.{IsOfSlot}
 use Rattle.arr_store.specs.Slots.{slots_of}
+use Rattle.arr_store.specs.Stored.{cells}
 use Rattle.arr_strips.specs.Blocks.{block_positions}
-use Rattle.arr_lanes.specs.Lanes.{IsLane}
+use Rattle.arr_lanes.specs.Lanes.{IsLane, held, held_at, number}
 use Rattle.arr_lanes.proofs.Places.{in_lanes, read_lane}
 use Rattle.arr_machine.proofs.Blocks.{item_at}
 use Rattle.arr_machine.proofs.Few.{few_block}
-use Rattle.arr_machine.proofs.Shows.{lies_up, show_lane, show_match, show_size, show_stands, show_type}
+use Rattle.arr_machine.proofs.Shows.{lies_up, show_lane, show_match, show_own, show_size, show_stands, show_type}
 use Rattle.arr_machine.proofs.run.show_lane.Goals as goal
 
 pub overflow_cast-run : goal.overflow_cast-run
@@ -57,7 +58,10 @@ returns-clause-stands c =
     let typed : IsLane op.0.from c.args.strip.room (Some lane) = subst (IsLane op.0.from c.args.strip.room) there (show_lane c.args._ops.now c.args.strip.position c.args.strip.count c.args.strip.room c.requires.strip c.args._index op.0 c.requires.there op.1 c.args.slot c.args.lane c.args.lanes.now (c.requires.task op.0 op.1) (slots_of c.args.slots.now) c.requires.slots c.requires.ready.typed) in
     let within : c.args.strip.count ≤ c.args.strip.room = c.requires.strip.within in
     let room : c.args.strip.room ≤ length (cell_of lane).numbers = typed.1 in
-    show_stands c.args._ops.now c.args.strip.position c.args.strip.count c.args.strip.room c.requires.strip c.args._index op.0 c.requires.there op.1 c.args.slot c.args.lane c.args.lanes.now (c.requires.task op.0 op.1) (slots_of c.args.slots.now) c.requires.slots lane there (omega arith) (slots_of c.put_run.new.self) c.put_run.ensures c.args._numbers.now
+    show_stands c.args._ops.now c.args.strip.position c.args.strip.count c.args.strip.room c.requires.strip c.args._index op.0 c.requires.there op.1 c.args.slot c.args.lane c.args.lanes.now (c.requires.task op.0 op.1) (slots_of c.args.slots.now) c.requires.slots lane there (omega arith) (slots_of c.put_run.new.self) c.put_run.ensures (held c.args.lanes.now c.args._places.now (cells c.args._store.now))
+    (λ i. ap (λ o. held_at (cells c.args._store.now) o (slice_get c.args.lanes.now c.args.lane) i)
+    (show_own c.args._ops.now c.args.strip.position c.args.strip.count c.args.strip.room c.requires.strip c.args._index op.0 c.requires.there op.1 c.args.slot c.args.lane c.args.lanes.now (c.requires.task op.0 op.1) (slots_of c.args.slots.now) c.requires.slots c.args._places.now c.requires.ready.own))
+    c.args._numbers.now
 
 pub returns-clause-slots : goal.returns-clause-slots
 returns-clause-slots c =
@@ -67,4 +71,4 @@ returns-clause-slots c =
     let typed : IsLane op.0.from c.args.strip.room (Some lane) = subst (IsLane op.0.from c.args.strip.room) there (show_lane c.args._ops.now c.args.strip.position c.args.strip.count c.args.strip.room c.requires.strip c.args._index op.0 c.requires.there op.1 c.args.slot c.args.lane c.args.lanes.now (c.requires.task op.0 op.1) (slots_of c.args.slots.now) c.requires.slots c.requires.ready.typed) in
     let within : c.args.strip.count ≤ c.args.strip.room = c.requires.strip.within in
     let room : c.args.strip.room ≤ length (cell_of lane).numbers = typed.1 in
-    show_match c.args._ops.now c.args.strip.position c.args.strip.count c.args.strip.room c.requires.strip c.args._index op.0 c.requires.there op.1 c.args.slot c.args.lane c.args.lanes.now (c.requires.task op.0 op.1) (slots_of c.args.slots.now) c.requires.slots lane there (omega arith) (slots_of c.put_run.new.self) c.put_run.ensures
+    show_match c.args._ops.now c.args.strip.position c.args.strip.count c.args.strip.room c.requires.strip c.args._index op.0 c.requires.there op.1 c.args.slot c.args.lane c.args.lanes.now (c.requires.task op.0 op.1) (slots_of c.args.slots.now) c.requires.slots lane there (omega arith) (slots_of c.put_run.new.self) c.put_run.ensures (λ r i. number c.args.lanes.now r i) (λ i. refl)

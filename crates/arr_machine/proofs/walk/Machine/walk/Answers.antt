@@ -1,5 +1,4 @@
-use Rattle.std.proofs.Common.{◌≡◌, ◌-◌, ◌≤◌, sym, subst, ◌∙◌, arith}
-use Rattle.std.proofs.Math.Nat.{min-le_right}
+use Rattle.std.proofs.Common.{◌≡◌, ◌+◌, ◌≤◌, sym, subst, ◌∙◌, arith}
 use Rattle.arr_view.specs.Strided.{Strided}
 use Rattle.arr_ops.specs.Costs.{reads, total}
 use Rattle.arr_ops.proofs.Pairs.{All_weaker}
@@ -38,21 +37,23 @@ run_strip-requires-clause-saves c =
 
 pub loop-at-preserved : goal.loop-at-preserved
 loop-at-preserved c =
-    let least : c.min.result ≤ c.args.self.now.positions - c.loop-at.at = subst (λ k. k ≤ c.args.self.now.positions - c.loop-at.at) (sym c.min.ensures) (min-le_right _ _) in
     let reads_alike : total (λ (v : Strided). width_at (cells c.loop-at.store v.base)) (reads c.args.ops.now) ≡ total (λ (v : Strided). width_at (cells c.args.store.now v.base)) (reads c.args.ops.now) =
     widths_alike (cells c.args.store.now) (cells c.loop-at.store) (reads c.args.ops.now) c.loop-at.invariant.same in
     let stores_alike : total (λ (v : Strided). width_at (cells c.loop-at.store v.base)) (stores c.args.ops.now) ≡ total (λ (v : Strided). width_at (cells c.args.store.now v.base)) (stores c.args.ops.now) =
     widths_alike (cells c.args.store.now) (cells c.loop-at.store) (stores c.args.ops.now) c.loop-at.invariant.same in
     record {
-      below = omega (arith, c.loop-at-test.true);
-      walks = λ m start fit w. c.run_strip.ensures.walks m start fit (c.loop-at.invariant.walks m start fit w);
+      below = omega (arith, c.strip_at-strip.ensures.inside, c.loop-at.invariant.machine.positions, c.requires.machine.positions);
+      walks = λ m start fit w.
+          subst (λ p. Walks c.args.ops.now m start (p + c.strip_at-strip.result.count) (cells c.run_strip.new.store) c.run_strip.new.numbers (slots_of c.run_strip.new.slots)) c.strip_at-strip.ensures.position
+          (c.run_strip.ensures.walks m start fit
+          (subst (λ p. Walks c.args.ops.now m start p (cells c.loop-at.store) c.loop-at.numbers (slots_of c.loop-at.slots)) (sym c.strip_at-strip.ensures.position) (c.loop-at.invariant.walks m start fit w)));
       machine = c.run_strip.ensures.machine;
       same = λ b. c.run_strip.ensures.same b ∙ c.loop-at.invariant.same b;
       long = c.run_strip.ensures.long ∙ c.loop-at.invariant.long;
       kept = c.run_strip.ensures.kept;
       slots = c.run_strip.ensures.slots;
-      loads = moved_on c.run_strip.new.store.loads c.loop-at.store.loads c.args.store.now.loads c.loop-at.at c.min.result _ _ c.run_strip.ensures.loads c.loop-at.invariant.loads reads_alike;
-      saves = moved_on c.run_strip.new.store.stores c.loop-at.store.stores c.args.store.now.stores c.loop-at.at c.min.result _ _ c.run_strip.ensures.saves c.loop-at.invariant.saves stores_alike;
+      loads = moved_on c.run_strip.new.store.loads c.loop-at.store.loads c.args.store.now.loads c.loop-at.at c.strip_at-strip.result.count _ _ c.run_strip.ensures.loads c.loop-at.invariant.loads reads_alike;
+      saves = moved_on c.run_strip.new.store.stores c.loop-at.store.stores c.args.store.now.stores c.loop-at.at c.strip_at-strip.result.count _ _ c.run_strip.ensures.saves c.loop-at.invariant.saves stores_alike;
       made = c.run_strip.ensures.made ∙ c.loop-at.invariant.made;
       room = c.run_strip.ensures.room ∙ c.loop-at.invariant.room;
     }
