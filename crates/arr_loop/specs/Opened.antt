@@ -49,7 +49,7 @@ kept_of contracted op = filter (λ b. not (has contracted b)) (made_by op)
 abbrev pub are_absent : (ℕ → Option Cell) → List ℕ → Bool
 are_absent f bs = list_all (λ b. is_none (f b)) bs
 
--- the bases before and after an operation's was opened, unless it is a contracted one
+-- the bases before and after the one that an operation creates was opened, unless it is a contracted one
 abbrev pub IsOpened : List ℕ → Op → (ℕ → Option Cell) → (ℕ → Option Cell) → Type 0
 IsOpened contracted op before after = (b : ℕ) → after b ≡ cond (has contracted b) (before b) (opened_by op b (before b))
 

@@ -7,3 +7,4 @@ pub mod Lent
 pub mod Standing
 pub mod Ports
 pub mod Machines
+pub mod Examples

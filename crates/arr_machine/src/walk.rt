@@ -22,8 +22,8 @@ use arr_ops::Op;
 use arr_store::{Buffer, Slots, Store};
 
 /// What a block takes to walk its positions in strips: a task for each operation, the views that a strip loads and stores, a lane for each
-/// view and each constant, for each lane the place where its numbers are read instead, if so, and a spare list of each type; each of these
-/// has room for `room` numbers. A strip ends where a row of so many positions does.
+/// view and each constant, and a spare list of each type; lanes and spare lists have room for `room` numbers. `places` has for each lane
+/// where its numbers are read instead, if so. A strip ends where a row of `row` positions does.
 #[derive(Drop)]
 pub struct Machine {
     pub positions: u32,
