@@ -106,10 +106,13 @@ filter_rises p a (suc n) =
       | false ↦ weaker a (a + 1) (filter p (range_with_len (a + 1) n)) (omega arith) (filter_rises p (a + 1) n)
     ]
 
+pub filtered_ascends : (p : ℕ → Bool) (a n : ℕ) → ascends (filter p (range_with_len a n)) ≡ true
+filtered_ascends p a n = rising_ascends a (filter p (range_with_len a n)) (filter_rises p a n)
+
 union_ascends : (list : List Op) (a b : List ℕ) → ascends (union (numbered list) a b) ≡ true
 union_ascends list a b =
     ap (λ ns. ascends (filter (λ i. has a i || has b i) ns)) (numbers_are list)
-    ∙ rising_ascends 1 (filter (λ i. has a i || has b i) (range_with_len 1 (length list))) (filter_rises (λ i. has a i || has b i) 1 (length list))
+    ∙ filtered_ascends (λ i. has a i || has b i) 1 (length list)
 
 abbrev pub Ascending : List (List ℕ) → Type 0
 Ascending blocks = (b : List ℕ) → In b blocks → ascends b ≡ true

@@ -14,6 +14,6 @@ mod KeyedBlocks
 mod Chosen
 mod Begun
 mod Grids
-mod GreedyBlocks
+pub mod GreedyBlocks
 mod Printed
 mod Gained

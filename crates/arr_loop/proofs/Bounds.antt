@@ -10,7 +10,7 @@ use Rattle.arr_view.specs.Strided.{Strided}
 use Rattle.arr_view.specs.Views.{identical, is_view, positions}
 use Rattle.arr_view.proofs.Checks.{lawful}
 use Rattle.arr_ops.specs.declared.op.Op.{Op}
-use Rattle.arr_ops.specs.Costs.{all_reads, all_writes, distinct, elem_of, reads, total, weight, weight_of, writes}
+use Rattle.arr_ops.specs.Costs.{all_reads, all_writes, distinct, elem_of, ext, reads, total, weight, weight_of, writes}
 use Rattle.arr_ops.specs.Formed.{is_formed, well_formed}
 use Rattle.arr_ops.specs.Ops.{array_of, creates, freed_by, inputs, outputs, view_of, views}
 use Rattle.arr_ops.specs.Plans.{is_legal, numbered, ops_of}
@@ -75,6 +75,13 @@ module _ (w : Strided → ℕ) where
   reads_light k ops h =
       let all = total_distinct identical (all_reads ops) in
       let some = total_reads k (λ (v : Strided). not (creates ops v.base)) ops h in omega arith
+
+  pub ext_light : (k : ℕ) (ops : List Op) → AllByRecursion (λ (op : Op). Light k (views op)) ops → total w (ext ops) ≤ length ops * (3 * k)
+  ext_light k ops h =
+      let all = total_distinct identical (all_reads ops ++ all_writes ops) in
+      let both = total_more (all_reads ops) (all_writes ops) in
+      let reads = total_reads k (λ (v : Strided). not (creates ops v.base)) ops h in
+      let writes = total_writes k (λ (v : Strided). not (freed_by ops v.base)) ops h in omega arith
 
   pub writes_light : (k : ℕ) (ops : List Op) → AllByRecursion (λ (op : Op). Light k (views op)) ops → total w (writes ops) ≤ length ops * k
   writes_light k ops h =

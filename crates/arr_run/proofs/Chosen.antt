@@ -16,6 +16,7 @@ use Rattle.arr_ops.proofs.Spots.{all_left, all_right, formed_of, views_of}
 use Rattle.arr_heur.proofs.LinearPlan.{linear_legal}
 use Rattle.arr_heur.proofs.Merged.{greedy_legal}
 use Rattle.arr_loop.proofs.Blocks.{all_block, all_ops, ops_in}
+use Rattle.arr_loop.proofs.Bounds.{ext_light, light_views}
 use Rattle.arr_cert.specs.Texts.{is_spellable}
 use Rattle.arr_law.specs.declared.certificate.Certificate.{Certificate}
 use Rattle.arr_search.specs.declared.found.Found.{Found}
@@ -58,71 +59,11 @@ searched list number budget found b = record {
   best = subst (λ c. IsBest list number budget (record { plan = found.plan; cost = c; bound = found.bound; units = found.units; certificate = found.certificate })) b.cost_is b;
 }
 
--- ---- sums of weights
-
-module _ (w : Strided → ℕ) where
-  total_more : (xs ys : List Strided) → total w (xs ++ ys) ≡ total w xs + total w ys
-  total_more [] ys = omega arith
-  total_more (x ∷ xs) ys = let rest = total_more xs ys in omega arith
-
-  total_filtered : (p : Strided → Bool) (xs : List Strided) → total w (filter p xs) ≤ total w xs
-  total_filtered p [] = omega arith
-  total_filtered p (x ∷ xs) =
-      let rest : total w (filter p xs) ≤ total w xs = total_filtered p xs in
-      elim (p x) as (λ b. total w (cond b (x ∷ filter p xs) (filter p xs)) ≤ w x + total w xs) [ true ↦ omega arith | false ↦ omega arith ]
-
-  total_distinct : (same : Strided → Strided → Bool) (xs : List Strided) → total w (distinct same xs) ≤ total w xs
-  total_distinct same [] = omega arith
-  total_distinct same (x ∷ xs) =
-      let rest : total w (distinct same xs) ≤ total w xs = total_distinct same xs in
-      let less : total w (filter (λ v. not (same x v)) (distinct same xs)) ≤ total w (distinct same xs) = total_filtered (λ v. not (same x v)) (distinct same xs) in
-      omega arith
-
-  -- each view weighs at most k
-  abbrev Light : ℕ → List Strided → Type 0
-  Light k xs = AllByRecursion (λ v. w v ≤ k) xs
-
-  total_option : (k : ℕ) (o : Option Strided) → Light k (option_to_list o) → total w (option_to_list o) ≤ k
-  total_option k None h = omega arith
-  total_option k (Some v) h = let here : w v ≤ k = h.0 in omega arith
-
-  total_inputs : (k : ℕ) (op : Op) → Light k (inputs op) → total w (inputs op) ≤ 2 * k
-  total_inputs k op h =
-      let first = total_option k (array_of op.first) (all_left (λ v. w v ≤ k) (view_of op.first) (view_of op.second) h) in
-      let second = total_option k (array_of op.second) (all_right (λ v. w v ≤ k) (view_of op.first) (view_of op.second) h) in
-      let both = total_more (view_of op.first) (view_of op.second) in omega arith
-
-  total_reads : (k : ℕ) (p : Strided → Bool) (ops : List Op) → AllByRecursion (λ (op : Op). Light k (views op)) ops → total w (flat_map (λ (op : Op). filter p (inputs op)) ops) ≤ length ops * (2 * k)
-  total_reads k p [] h = omega arith
-  total_reads k p (op ∷ ops) h =
-      let rest = total_reads k p ops h.1 in
-      let here = total_filtered p (inputs op) in
-      let own = total_inputs k op (all_right (λ v. w v ≤ k) (outputs op) (inputs op) h.0) in
-      let both = total_more (filter p (inputs op)) (flat_map (λ (o : Op). filter p (inputs o)) ops) in omega arith
-
-  total_writes : (k : ℕ) (p : Strided → Bool) (ops : List Op) → AllByRecursion (λ (op : Op). Light k (views op)) ops → total w (flat_map (λ (op : Op). filter p (outputs op)) ops) ≤ length ops * k
-  total_writes k p [] h = omega arith
-  total_writes k p (op ∷ ops) h =
-      let rest = total_writes k p ops h.1 in
-      let here = total_filtered p (outputs op) in
-      let own = total_option k op.out (all_left (λ v. w v ≤ k) (outputs op) (inputs op) h.0) in
-      let both = total_more (filter p (outputs op)) (flat_map (λ (o : Op). filter p (outputs o)) ops) in omega arith
-
-  total_ext : (k : ℕ) (ops : List Op) → AllByRecursion (λ (op : Op). Light k (views op)) ops → total w (ext ops) ≤ length ops * (3 * k)
-  total_ext k ops h =
-      let all = total_distinct identical (all_reads ops ++ all_writes ops) in
-      let both = total_more (all_reads ops) (all_writes ops) in
-      let reads = total_reads k (λ (v : Strided). not (creates ops v.base)) ops h in
-      let writes = total_writes k (λ (v : Strided). not (freed_by ops v.base)) ops h in omega arith
-
 -- ---- what blocks cost
-
-light_views : (list : List Op) (op : Op) → well_formed op ≡ true → AllByRecursion (λ v. weight list v ≤ 8388608) (views op)
-light_views list op h = All_weaker (λ v. is_view v ≡ true) (λ v. weight list v ≤ 8388608) (λ v k. small_weight (elem_of list v.base) v k) (views op) (views_of op h)
 
 small_block : (list : List Op) (block : List ℕ) → is_formed list ≡ true → block_cost list block ≤ length (ops_of (numbered list) block) * 25165824
 small_block list block h =
-    total_ext (weight list) 8388608 (ops_of (numbered list) block)
+    ext_light (weight list) 8388608 (ops_of (numbered list) block)
     (all_block (λ op. AllByRecursion (λ v. weight list v ≤ 8388608) (views op)) list block (All_weaker (λ op. well_formed op ≡ true) (λ op. AllByRecursion (λ v. weight list v ≤ 8388608) (views op)) (λ op k. light_views list op k) list (formed_of list h).well))
 
 small_blocks : (list : List Op) (plan : List (List ℕ)) → is_formed list ≡ true → sum_by (block_cost list) plan ≤ ops_in list plan * 25165824

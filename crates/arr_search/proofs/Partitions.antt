@@ -15,6 +15,7 @@ use Rattle.arr_ops.proofs.Tests.{or_cases}
 use Rattle.arr_ops.proofs.Members.{in_filter, in_permutation, in_all}
 use Rattle.arr_ops.proofs.Legality.{IsPartition, Share, has_in, partition_permutation}
 use Rattle.arr_ops.proofs.Orders.{each_whole, order_legal}
+use Rattle.arr_greedy.proofs.GreedyBlocks.{filtered_ascends}
 use Rattle.arr_heur.specs.Partitions.{block_in}
 use Rattle.arr_heur.proofs.Merge.{in_map}
 use Rattle.arr_heur.proofs.OrderedBlocks.{Told, all_told}
@@ -172,30 +173,6 @@ module _ (list : List Op) (labels : List ℕ) (long : length labels ≡ length l
 
 -- ---- what `ordered` asks of the parts
 
-Rising : ℕ → List ℕ → Type 0
-Rising a [] = Unit {0}
-Rising a (i ∷ is) = (a ≤ i) × Rising (i + 1) is
-
-weaker : (a b : ℕ) (is : List ℕ) → a ≤ b → Rising b is → Rising a is
-unfolding Rising
-weaker a b [] l h = tt
-weaker a b (i ∷ is) l h = let k : b ≤ i = h.0 in (omega arith, h.1)
-
-rising_ascends : (a : ℕ) (is : List ℕ) → Rising a is → ascends is ≡ true
-unfolding Rising
-rising_ascends a [] h = refl
-rising_ascends a (i ∷ []) h = refl
-rising_ascends a (i ∷ j ∷ is) h = let l : i + 1 ≤ j = h.1.0 in ap₂ (λ s t. s && t) (lt-ltb i j (omega arith)) (rising_ascends (i + 1) (j ∷ is) h.1)
-
-filter_rises : (p : ℕ → Bool) (a n : ℕ) → Rising a (filter p (range_with_len a n))
-unfolding Rising
-filter_rises p a zero = tt
-filter_rises p a (suc n) =
-    elim (p a) as (λ b. Rising a (cond b (a ∷ filter p (range_with_len (a + 1) n)) (filter p (range_with_len (a + 1) n)))) [
-      | true ↦ (omega arith, filter_rises p (a + 1) n)
-      | false ↦ weaker a (a + 1) (filter p (range_with_len (a + 1) n)) (omega arith) (filter_rises p (a + 1) n)
-    ]
-
 part_at : (blocks : List (List ℕ)) (k : ℕ) → k < length blocks → In (block_in blocks k) blocks
 part_at [] k l = absurd (omega arith)
 part_at (b ∷ blocks) zero l = inl refl
@@ -204,7 +181,7 @@ part_at (b ∷ blocks) (suc k) l = inr (part_at blocks k (omega arith))
 pub parts_ascend : (labels : List ℕ) (k : ℕ) → k < length (parts labels) → ascends (block_in (parts labels) k) ≡ true
 parts_ascend labels k l =
     let p = part_of labels (block_in (parts labels) k) (part_at (parts labels) k l) in
-    ap ascends p.1 ∙ rising_ascends 1 (with_label labels p.0) (filter_rises (λ f. place_in labels f == p.0) 1 (length labels))
+    ap ascends p.1 ∙ filtered_ascends (λ f. place_in labels f == p.0) 1 (length labels)
 
 pub parts_inside : (labels : List ℕ) (n k : ℕ) → length labels ≡ n → k < length (parts labels) → All (λ i. (0 < i) × (i ≤ n)) (block_in (parts labels) k)
 parts_inside labels n k e l =
